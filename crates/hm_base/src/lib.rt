@@ -1,0 +1,14 @@
+//! Stamps, values, log entries, nodes and short lists: what every part of the store speaks of.
+#![tactic(auto)]
+
+pub mod entries;
+pub mod entry;
+pub mod members;
+pub mod memory;
+pub mod node;
+pub mod operation;
+pub mod spelling;
+pub mod stamp;
+pub mod value;
+pub mod verdict;
+pub mod why;

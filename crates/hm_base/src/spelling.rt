@@ -1,0 +1,105 @@
+ghost use Rattle.std.specs.Prelude.{◌≡◌, ◌≢◌, ℕ, ◌/◌, ◌^◌, ◌<◌, ◌≤◌, IfSome, IfNone, IsTrue, ◌↔◌, List, decimal, length};
+ghost use Rattle.hm_base.specs.Padded.{max_value_len};
+ghost use Rattle.hm_base.specs.Spellings.{value_text};
+ghost use Rattle.hex.specs.Hex.{IsBytes, encode_lower};
+
+use crate::value::{MAX_VALUE_LEN, Value};
+use itoa::Buffer;
+use std::str;
+
+/// Whether a text spells the number.
+fn is_spelled(number: u64, text: &str) -> bool
+    ensures { IsTrue result ↔ (decimal number ≡ text.now) }
+{
+    let mut buffer = Buffer::new();
+    buffer.format(number) == text
+}
+
+/// The number that a text spells.
+fn number_in(text: &str) -> Option<u64>
+    ensures some { IfSome result (λ n. text.now ≡ decimal n) }
+    ensures none { IfNone result ((n : ℕ) → n < 2 ^ 64 → text.now ≢ decimal n) }
+{
+    match text.parse::<u64>() {
+        Ok(number) => {
+            if is_spelled(number, text) {
+                Some(number)
+            } else {
+                None
+            }
+        }
+        Err(_) => None,
+    }
+}
+
+/// The number that bytes spell in decimal digits, with no sign and no leading zero but `0` itself. None exactly for any
+/// other text, or a number above `u64`.
+pub fn read_number(text: &[u8]) -> Option<u64>
+    ensures some { IfSome result (λ n. text.now ≡ decimal n) }
+    ensures none { IfNone result ((n : ℕ) → n < 2 ^ 64 → text.now ≢ decimal n) }
+{
+    match str::from_utf8(text) {
+        Ok(text) => number_in(text),
+        Err(_) => None,
+    }
+}
+
+/// Decodes a text's hexadecimal digits, two for each byte, in upper or lower case; false where a digit is none.
+fn decode_digits(text: &[u8], bytes: &mut [u8]) -> bool
+    requires { length bytes.old ≡ length text.now / 2 }
+    ensures { (v : List ℕ) → IsBytes v → text.now ≡ encode_lower v → IsTrue result × (bytes.new ≡ v) }
+{
+    hex::decode_to_slice(text, bytes).is_ok()
+}
+
+/// The bytes of a text's hexadecimal digits, in upper or lower case.
+fn hex_bytes(text: &[u8]) -> Option<Value>
+    ensures none { IfNone result ((v : List ℕ) → IsBytes v → length v ≤ max_value_len → text.now ≢ encode_lower v) }
+    ensures only { IfSome result (λ bytes. (v : List ℕ) → IsBytes v → text.now ≡ encode_lower v → v ≡ bytes) }
+{
+    let count = text.len() / 2;
+    if count > MAX_VALUE_LEN {
+        return None;
+    }
+    let mut room = [0; MAX_VALUE_LEN];
+    let bytes = &mut room[..count];
+    if decode_digits(text, bytes) {
+        Value::from_slice(bytes)
+    } else {
+        None
+    }
+}
+
+/// Whether a text spells the bytes in lower-case hexadecimal.
+fn is_hex_of(bytes: &[u8], text: &[u8]) -> bool
+    requires { length bytes.now ≤ max_value_len }
+    ensures { IsTrue result ↔ (text.now ≡ encode_lower bytes.now) }
+{
+    let mut room = [0; 2 * MAX_VALUE_LEN];
+    let digits = &mut room[..2 * bytes.len()];
+    let _ = hex::encode_to_slice(bytes, digits);
+    text == digits
+}
+
+/// The value that a text spells: `empty` for no bytes, else 2 to 128 lower-case hexadecimal digits. None exactly for any other text.
+pub fn read_value(text: &[u8]) -> Option<Value>
+    ensures some { IfSome result (λ v. text.now ≡ value_text v) }
+    ensures none { IfNone result ((v : List ℕ) → IsBytes v → length v ≤ max_value_len → text.now ≢ value_text v) }
+{
+    if text == b"empty".as_slice() {
+        return Value::from_slice(&[]);
+    }
+    if text.is_empty() {
+        return None;
+    }
+    match hex_bytes(text) {
+        Some(value) => {
+            if is_hex_of(value.as_slice(), text) {
+                Some(value)
+            } else {
+                None
+            }
+        }
+        None => None,
+    }
+}

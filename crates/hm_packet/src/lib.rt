@@ -1,0 +1,10 @@
+//! Packets: their bodies, what contracts see of them, and their text.
+#![tactic(auto)]
+
+pub mod acted;
+pub mod body;
+pub mod outcome;
+pub mod outs;
+pub mod packet;
+pub mod route;
+pub mod turn;
