@@ -1,7 +1,7 @@
 ghost use Rattle.std.specs.Prelude.{◌≡◌, ◌<◌, ◌≤◌, ◌↔◌, [], ◌∷◌, ◌++◌, length, slice_get, IsOk, IsTrue, IfOk, OnOk, OnErr, nat_eq, vec_len, vec_capacity, ℕ, ◌+◌, drop, take, ◌-◌, fold};
 ghost use Rattle.std.specs.HashMap.{get, hash_map_len, spare};
 ghost use Rattle.hm_base.specs.Logs.{last_write, end_stamp, write_over};
-ghost use Rattle.hm_store.specs.Log.{applied_entries, max_log_len};
+ghost use Rattle.hm_store.specs.Log.{applied_entries, last_stamp, max_log_len};
 
 use hm_base::entry::{Act, Entry};
 use hm_base::memory::NoMemory;
@@ -129,6 +129,13 @@ impl Ledger {
         self.entries.get(i as usize).copied()
     }
 
+    /// The last applied entry's stamp. None exactly where none is applied.
+    pub fn last_applied(&self) -> Option<Stamp>
+        ensures { result ≡ last_stamp (applied_entries self.now) }
+    {
+        last_stamp_of(&self.entries[..self.applied_len as usize])
+    }
+
     /// The last entry's stamp, 0.0 for an empty log.
     pub fn last(&self) -> Stamp
         ensures { result ≡ end_stamp self.now.entries }
@@ -172,5 +179,15 @@ fn note_writes(written: &mut HashMap<u32, (Stamp, Value)>, entries: &[Entry])
 {
     for entry in entries {
         note_write(written, entry);
+    }
+}
+
+/// The stamp of the last of some entries, if there are any.
+fn last_stamp_of(entries: &[Entry]) -> Option<Stamp>
+    ensures { result ≡ last_stamp entries.now }
+{
+    match entries.last() {
+        Some(entry) => Some(entry.stamp),
+        None => None,
     }
 }
