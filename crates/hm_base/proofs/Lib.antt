@@ -1,1 +1,3 @@
 mod HexTexts
+pub mod ListLaws
+pub mod StampLaws

@@ -1,0 +1,5 @@
+pub mod Marks
+pub mod Order
+pub mod Legal
+pub mod Held
+pub mod Places
