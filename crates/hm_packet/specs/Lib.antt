@@ -1,3 +1,4 @@
 pub mod Messages
 pub mod Routing
 pub mod Steps
+pub mod Texts
