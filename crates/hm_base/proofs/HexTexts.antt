@@ -1,5 +1,5 @@
 -- What decoding a text that spells bytes gives.
-use Rattle.std.proofs.Common.{◌≡◌, ℕ, ◌+◌, ◌*◌, ◌/◌, ◌<◌, ◌≤◌, false, List, [], ◌∷◌, length, Option, Some, None, Result, Ok, Err, MatchResult, IfSome, refl, sym, ap, subst, ◌∙◌, arith, eq-eqb, lit<}
+use Rattle.std.proofs.Common.{◌≡◌, ℕ, ◌*◌, ◌/◌, ◌<◌, false, List, [], ◌∷◌, length, Option, Some, None, Result, Ok, Err, MatchResult, IfSome, sym, ap, subst, ◌∙◌, arith, eq-eqb, lit<}
 use Rattle.std.specs.Prelude.{nat_eq}
 use Rattle.std.proofs.lemmas.Bool.{both_ways}
 use Rattle.hex.specs.Hex.{IsBytes, encode_lower, encode_with, lower_digits, decode_sized}

@@ -1,5 +1,5 @@
 -- Words on lists: prefixes, slices and membership.
-use Rattle.std.specs.Prelude.{◌≡◌, ℕ, List, [], ◌∷◌, ◌++◌, length}
+use Rattle.std.specs.Prelude.{◌≡◌, ℕ, List, ◌∷◌, ◌++◌, length}
 
 -- the second list begins with the first
 pub record IsPrefix {A : Type 0} (front whole : List A) : Type 0 where

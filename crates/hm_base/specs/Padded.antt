@@ -1,6 +1,6 @@
 -- A short run of bytes in a fixed array, with zeros behind it.
 use Rattle.std.specs.Prelude.{ℕ, List, ◌++◌, ◌-◌, ◌≤◌, ◌≡◌, take, drop, length, replicate}
-use Rattle.std.proofs.Common.{refl, ap, ◌∙◌, sym, arith}
+use Rattle.std.proofs.Common.{ap, ◌∙◌, arith}
 use Rattle.std.proofs.lemmas.List.{length-take, take-append-drop}
 use Rattle.hm_base.specs.declared.value.TheConstants.{MAX_VALUE_LEN}
 use Rattle.hm_base.specs.declared.value.Value.TheInside.{Inside}

@@ -1,5 +1,5 @@
 -- Stamps: a switch's number and its sequence number, in lexicographic order (Harmonia).
-use Rattle.std.specs.Prelude.{ℕ, Bool, ◌&&◌, ◌||◌, ◌==◌, nat_lt, nat_le, IsTrue}
+use Rattle.std.specs.Prelude.{Bool, ◌&&◌, ◌||◌, ◌==◌, nat_lt, nat_le, IsTrue}
 use Rattle.hm_base.specs.declared.stamp.Stamp.{Stamp}
 
 -- the least stamp; no write carries it

@@ -1,3 +1,5 @@
 pub mod Messages
 pub mod Routing
 pub mod Steps
+pub mod Fields
+pub mod Texts
