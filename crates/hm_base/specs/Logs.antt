@@ -5,6 +5,7 @@ use Rattle.hm_base.specs.declared.entry.Entry.{Entry}
 use Rattle.hm_base.specs.declared.entry.Act.{Act}
 use Rattle.hm_base.specs.declared.entry.Act.TheVariants.{Put, Look}
 use Rattle.hm_base.specs.declared.entries.TheConstants.{MAX_PAGE_LEN}
+use Rattle.hm_base.specs.declared.verdict.LatestRequest.{LatestRequest}
 use Rattle.hm_base.specs.declared.operation.Answer.{Answer}
 use Rattle.hm_base.specs.declared.operation.Answer.TheVariants.{Nothing, Found}
 use Rattle.hm_base.specs.Stamps.{least, stamp_le}
@@ -49,22 +50,20 @@ latest log object = reply_of (last_write log object)
 abbrev pub store : List Entry → ℕ → Answer
 store log object = (latest log object).1
 
--- a client's greatest request and the least index at which it stands
-pub record Request : Type 0 where
-  pub request : ℕ
-  pub index : ℕ
-
-abbrev pub is_newer : Option Request → ℕ → Bool
+abbrev pub is_newer : Option LatestRequest → ℕ → Bool
 is_newer None request = true
 is_newer (Some known) request = nat_lt known.request request
 
-abbrev pub greatest_from : ℕ → Option Request → ℕ → List Entry → Option Request
-greatest_from index known client [] = known
-greatest_from index known client (e ∷ es) =
-    greatest_from (index + 1) (if e.client == client && is_newer known e.request then Some (record { request = e.request; index = index }) else known) client es
+-- a client's greatest request, after one more entry at this index
+abbrev pub newest : ℕ → Option LatestRequest → ℕ → Entry → Option LatestRequest
+newest index known client e = if e.client == client && is_newer known e.request then Some (record { request = e.request; index = index }) else known
 
--- the greatest request of a client in the log, or none
-abbrev pub greatest_request : List Entry → ℕ → Option Request
+abbrev pub greatest_from : ℕ → Option LatestRequest → ℕ → List Entry → Option LatestRequest
+greatest_from index known client [] = known
+greatest_from index known client (e ∷ es) = greatest_from (index + 1) (newest index known client e) client es
+
+-- the greatest request of a client in the log and the least index at which it stands, or none
+abbrev pub greatest_request : List Entry → ℕ → Option LatestRequest
 greatest_request log client = greatest_from 0 None client log
 
 -- how many entries a page has at most

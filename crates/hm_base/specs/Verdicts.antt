@@ -2,15 +2,16 @@
 use Rattle.std.specs.Prelude.{ℕ, ◌==◌, nat_lt, if◌then◌else◌, List, Option, Some, None}
 use Rattle.hm_base.specs.declared.stamp.Stamp.{Stamp}
 use Rattle.hm_base.specs.declared.entry.Entry.{Entry}
+use Rattle.hm_base.specs.declared.verdict.LatestRequest.{LatestRequest}
 use Rattle.hm_base.specs.declared.verdict.Verdict.{Verdict}
 use Rattle.hm_base.specs.declared.verdict.Verdict.TheVariants as verdict
 use Rattle.hm_base.specs.declared.verdict.Admit.{Admit}
 use Rattle.hm_base.specs.declared.verdict.Admit.TheVariants as admit
 use Rattle.hm_base.specs.declared.why.Why.TheVariants as why
 use Rattle.hm_base.specs.Stamps.{stamp_lt}
-use Rattle.hm_base.specs.Logs.{Request, greatest_request, end_stamp}
+use Rattle.hm_base.specs.Logs.{greatest_request, end_stamp}
 
-abbrev pub judged : Option Request → ℕ → Verdict
+abbrev pub judged : Option LatestRequest → ℕ → Verdict
 judged None request = verdict.New
 judged (Some known) request =
     if known.request == request then verdict.Again known.index

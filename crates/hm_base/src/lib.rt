@@ -7,6 +7,7 @@ pub mod members;
 pub mod memory;
 pub mod node;
 pub mod operation;
+pub mod room;
 pub mod spelling;
 pub mod stamp;
 pub mod value;

@@ -1,5 +1,12 @@
 use crate::why::Why;
 
+/// A client's greatest request in a log, and the least index at which it stands.
+#[derive(Clone, Copy, Debug, PartialEq, Eq)]
+pub struct LatestRequest {
+    pub request: u64,
+    pub index: u32,
+}
+
 /// How a client's request stands to those of a log.
 #[derive(Clone, Copy, Debug, PartialEq, Eq)]
 pub enum Verdict {

@@ -1,0 +1,29 @@
+-- A client's greatest request, when one more entry stands behind the log.
+use Rattle.std.proofs.Common.{◌≡◌, ℕ, ◌+◌, List, [], ◌∷◌, ◌++◌, length, Option, None, refl, sym, ap, ◌∙◌, arith, length-append}
+use Rattle.std.specs.Prelude.{nat_eq}
+use Rattle.std.specs.Map.{lookup}
+use Rattle.hm_clients.specs.Table.{Table, StandsFor, latest_of}
+use Rattle.hm_base.specs.declared.entry.Entry.{Entry}
+use Rattle.hm_base.specs.declared.verdict.LatestRequest.{LatestRequest}
+use Rattle.hm_base.specs.Logs.{newest, greatest_from, greatest_request}
+
+pub greatest_from-push : (index client : ℕ) (known : Option LatestRequest) (log : List Entry) (e : Entry)
+    → greatest_from index known client (log ++ e ∷ []) ≡ newest (index + length log) (greatest_from index known client log) client e
+greatest_from-push index client known [] e = ap (λ (n : ℕ). newest n known client e) (let s : index ≡ index + 0 = omega arith in s)
+greatest_from-push index client known (d ∷ log) e =
+    greatest_from-push (index + 1) client (newest index known client d) log e
+    ∙ ap (λ (n : ℕ). newest n (greatest_from (index + 1) (newest index known client d) client log) client e) (let s : index + 1 + length log ≡ index + length (d ∷ log) = omega arith in s)
+
+pub greatest_request-push : (log : List Entry) (e : Entry) (client : ℕ) → greatest_request (log ++ e ∷ []) client ≡ newest (length log) (greatest_request log client) client e
+greatest_request-push log e client = greatest_from-push 0 client None log e ∙ ap (λ (n : ℕ). newest n (greatest_request log client) client e) (let s : 0 + length log ≡ length log = omega arith in s)
+
+-- the table after one more entry
+pub noted : (old : Table) (latest : List (ℕ × LatestRequest)) (cap index : ℕ) (log : List Entry) (e : Entry) → StandsFor old log → index ≡ old.count
+    → ((client : ℕ) → lookup (nat_eq client) latest ≡ newest index (latest_of old client) client e) → StandsFor (record { latest = latest; count = index + 1; cap = cap }) (log ++ e ∷ [])
+noted old latest cap index log e h next found =
+    let here : index ≡ length log = next ∙ h.count in
+    record {
+      latest = λ client. found client ∙ ap (λ (n : ℕ). newest n (latest_of old client) client e) here
+          ∙ ap (λ (k : Option LatestRequest). newest (length log) k client e) (h.latest client) ∙ sym (greatest_request-push log e client);
+      count = omega (arith, length-append log (e ∷ []));
+    }

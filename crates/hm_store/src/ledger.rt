@@ -1,0 +1,176 @@
+ghost use Rattle.std.specs.Prelude.{◌≡◌, ◌<◌, ◌≤◌, ◌↔◌, [], ◌∷◌, ◌++◌, length, slice_get, IsOk, IsTrue, IfOk, OnOk, OnErr, nat_eq, vec_len, vec_capacity, ℕ, ◌+◌, drop, take, ◌-◌, fold};
+ghost use Rattle.std.specs.HashMap.{get, hash_map_len, spare};
+ghost use Rattle.hm_base.specs.Logs.{last_write, end_stamp, write_over};
+ghost use Rattle.hm_store.specs.Log.{applied_entries, max_log_len};
+
+use hm_base::entry::{Act, Entry};
+use hm_base::memory::NoMemory;
+use hm_base::room;
+use hm_base::stamp::Stamp;
+use hm_base::value::Value;
+use std::alloc::Global;
+use std::collections::HashMap;
+use std::marker::Model;
+
+/// The greatest number of entries that a log may have.
+pub const MAX_LOG_LEN: u32 = 16_384;
+
+/// A replicated log, the length of its applied prefix, and the last write of each object in both. All memory is taken at
+/// opening. Contracts see the list of its entries, the applied length and the capacity.
+#[derive(Drop)]
+pub struct Ledger {
+    entries: Vec<Entry>,
+    applied_len: u32,
+    cap: u32,
+    written: HashMap<u32, (Stamp, Value)>,
+    applied: HashMap<u32, (Stamp, Value)>,
+}
+
+/// The log has as many entries as it may have.
+#[derive(Clone, Copy, Debug, PartialEq, Eq)]
+pub struct LogFull;
+
+impl Model for Ledger {
+    ghost use Rattle.hm_store.specs.Log.{Log};
+
+    ghost Value = { Log };
+
+    ghost use Rattle.hm_store.specs.Indexed.{log_of, IsIndexed};
+
+    ghost view = { log_of };
+
+    ghost invariant = { IsIndexed };
+}
+
+impl Ledger {
+    /// The empty log, with room for `cap` entries.
+    pub fn open(alloc: Global, cap: u32) -> Result<Ledger, NoMemory>
+        requires { cap ≤ max_log_len }
+        ensures { IfOk result (λ l. (l.entries ≡ []) × (l.applied ≡ 0) × (l.cap ≡ cap)) }
+    {
+        let room = cap as usize;
+        Ok(Ledger {
+            entries: Vec::with_capacity(alloc, room)?,
+            applied_len: 0,
+            cap,
+            written: HashMap::with_capacity(alloc, room)?,
+            applied: HashMap::with_capacity(alloc, room)?,
+        })
+    }
+
+    /// How many entries the log has.
+    pub fn len(&self) -> u32
+        ensures len { result ≡ length self.now.entries }
+        ensures within { result ≤ self.now.cap }
+    {
+        self.entries.len() as u32
+    }
+
+    /// Whether the log has no entry.
+    pub fn is_empty(&self) -> bool
+        ensures { IsTrue result ↔ (self.now.entries ≡ []) }
+    {
+        self.entries.is_empty()
+    }
+
+    /// How many of its first entries are applied.
+    pub fn applied_len(&self) -> u32
+        ensures len { result ≡ self.now.applied }
+        ensures within { result ≤ length self.now.entries }
+    {
+        self.applied_len
+    }
+
+    /// Puts an entry behind the others. LogFull exactly at `cap` entries; then nothing changes.
+    pub fn push(&mut self, entry: Entry) -> Result<(), LogFull>
+        ensures room { IsOk result ↔ (length self.old.entries < self.old.cap) }
+        ensures ok { OnOk result (self.new ≡ record self.old { entries = self.old.entries ++ entry ∷ [] }) }
+        ensures err { OnErr result (self.new ≡ self.old) }
+    {
+        if self.entries.len() >= self.cap as usize {
+            return Err(LogFull);
+        }
+        note_write(&mut self.written, &entry);
+        put(&mut self.entries, entry);
+        Ok(())
+    }
+
+    /// Applies the log up to `k` entries.
+    pub fn apply_to(&mut self, k: u32)
+        requires rises { self.old.applied ≤ k }
+        requires within { k ≤ length self.old.entries }
+        ensures { self.new ≡ record self.old { applied = k } }
+    {
+        note_writes(
+            &mut self.applied,
+            &self.entries[self.applied_len as usize..k as usize],
+        );
+        self.applied_len = k;
+    }
+
+    /// The stamp and value of the object's last write in the log. None exactly where it has none.
+    pub fn latest(&self, object: u32) -> Option<(Stamp, Value)>
+        ensures { result ≡ last_write self.now.entries object }
+    {
+        self.written.get(&object).copied()
+    }
+
+    /// The same in the applied prefix.
+    pub fn applied(&self, object: u32) -> Option<(Stamp, Value)>
+        ensures { result ≡ last_write (applied_entries self.now) object }
+    {
+        self.applied.get(&object).copied()
+    }
+
+    /// The entry at a place, counted from 0. None exactly from `len()` on.
+    pub fn entry(&self, i: u32) -> Option<Entry>
+        ensures { result ≡ slice_get self.now.entries i }
+    {
+        self.entries.get(i as usize).copied()
+    }
+
+    /// The last entry's stamp, 0.0 for an empty log.
+    pub fn last(&self) -> Stamp
+        ensures { result ≡ end_stamp self.now.entries }
+    {
+        match self.entries.last() {
+            Some(entry) => entry.stamp,
+            None => Stamp::LEAST,
+        }
+    }
+}
+
+/// Puts an entry into room that is there.
+fn put(entries: &mut Vec<Entry>, entry: Entry)
+    requires { vec_len entries.old < vec_capacity entries.old }
+    ensures items { entries.new.items ≡ entries.old.items ++ entry ∷ [] }
+    ensures room { vec_capacity entries.old ≤ vec_capacity entries.new }
+{
+    let _act = entry.act;
+    let pushed: Result<_, _> = entries.push(entry);
+    pushed.unwrap();
+}
+
+/// Notes an entry that stands behind those noted, where it is a write.
+fn note_write(written: &mut HashMap<u32, (Stamp, Value)>, entry: &Entry)
+    requires { 0 < spare written.old }
+    ensures last { (o : ℕ) → get nat_eq written.new o ≡ write_over o (get nat_eq written.old o) entry.now }
+    ensures room { hash_map_len written.old + spare written.old ≤ hash_map_len written.new + spare written.new }
+    ensures one_more { hash_map_len written.new ≤ hash_map_len written.old + 1 }
+{
+    if let Act::Put(value) = entry.act {
+        room::put(written, entry.object, (entry.stamp, value));
+    }
+}
+
+/// Notes entries in a row.
+fn note_writes(written: &mut HashMap<u32, (Stamp, Value)>, entries: &[Entry])
+    requires { length entries.now ≤ spare written.old }
+    ensures last { (o : ℕ) → get nat_eq written.new o ≡ fold (write_over o) (get nat_eq written.old o) entries.now }
+    ensures room { hash_map_len written.old + spare written.old ≤ hash_map_len written.new + spare written.new }
+    ensures more { hash_map_len written.new ≤ hash_map_len written.old + length entries.now }
+{
+    for entry in entries {
+        note_write(written, entry);
+    }
+}
