@@ -2,3 +2,4 @@ pub mod Marks
 pub mod Order
 pub mod Legal
 pub mod Held
+pub mod Places
