@@ -1,1 +1,2 @@
 mod HexTexts
+pub mod ListLaws
