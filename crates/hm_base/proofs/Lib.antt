@@ -1,2 +1,3 @@
 mod HexTexts
 pub mod ListLaws
+pub mod StampLaws

@@ -8,7 +8,6 @@ use Rattle.hm_order.specs.declared.mark.Mark.TheVariants.{Invoke, Commit, Reply}
 use Rattle.hm_base.specs.declared.operation.OpId.{OpId}
 use Rattle.hm_order.specs.declared.mark.Want.{Want}
 use Rattle.hm_base.specs.declared.operation.Answer.{Answer}
-use Rattle.hm_base.specs.Stamps.{same_stamp}
 use Rattle.hm_order.specs.Marks.{At, same_op, invokes, commits, replies, invoked_at, committed_at, replied_at, want_in, want_of, version_in, version_of}
 use Rattle.hm_order.specs.Legal.{IsWellFormed}
 use Rattle.hm_order.proofs.Lists.{at_within, first_at, first_le}
@@ -22,16 +21,6 @@ same_op_is a b t =
 
 pub same_op_self : (a : OpId) → same_op a a ≡ true
 same_op_self a = and_from _ _ (eq-eqb a.client a.client refl) (eq-eqb a.request a.request refl)
-
-pub same_stamp_is : (a b : Stamp) → same_stamp a b ≡ true → a ≡ b
-same_stamp_is a b t =
-    let both : (nat_eq a.switch b.switch ≡ true) × (nat_eq a.seq b.seq ≡ true) = and_parts _ _ t in
-    let c : a.switch ≡ b.switch = eqb-true a.switch b.switch both.0 in
-    let r : a.seq ≡ b.seq = eqb-true a.seq b.seq both.1 in
-    ap (λ (n : ℕ). record { switch = n; seq = a.seq }) c ∙ ap (λ (n : ℕ). record { switch = b.switch; seq = n }) r
-
-pub same_stamp_self : (a : Stamp) → same_stamp a a ≡ true
-same_stamp_self a = and_from _ _ (eq-eqb a.switch a.switch refl) (eq-eqb a.seq a.seq refl)
 
 -- ---- which mark passes
 
