@@ -5,3 +5,5 @@ pub mod Lists
 pub mod Logs
 pub mod Verdicts
 pub mod Spellings
+pub mod Slots
+pub mod Taking

@@ -1,0 +1,17 @@
+pub mod Numbers
+pub mod Senders
+pub mod Same
+pub mod Switch
+pub mod Replica
+pub mod ReplicaSteps
+pub mod Chain
+pub mod PrimaryBackup
+pub mod ViewChange
+pub mod Viewstamped
+pub mod Service
+pub mod Declared
+pub mod Events
+pub mod World
+pub mod Deliveries
+pub mod Happens
+pub mod Runs
