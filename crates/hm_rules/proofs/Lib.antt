@@ -1,1 +1,6 @@
+mod Rows
 mod ChainRows
+mod PrimaryRows
+mod ViewstampedRows
+mod SwitchRows
+mod Examples

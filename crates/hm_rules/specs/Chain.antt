@@ -52,11 +52,18 @@ abbrev pub is_number : Option ℕ → ℕ → Bool
 is_number None n = false
 is_number (Some m) n = m == n
 
+-- the start and the commit that a chain's pages name
+abbrev pub chain_start : Replica → ℕ
+chain_start r = 0
+
+abbrev pub chain_commit : Replica → ℕ
+chain_commit r = 0
+
 abbrev pub page_if_any : Replica → Option ℕ → List Message
 page_if_any r None = []
-page_if_any r (Some other) = page_to r 0 0 other ∷ []
+page_if_any r (Some other) = page_to r (chain_start r) (chain_commit r) other ∷ []
 
--- the page to the successor; a chain's pages name no start and no commit
+-- the page to the successor
 abbrev pub passes_on : Replica → List Message
 passes_on r = page_if_any r (successor r)
 

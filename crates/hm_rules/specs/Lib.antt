@@ -15,3 +15,4 @@ pub mod World
 pub mod Deliveries
 pub mod Happens
 pub mod Runs
+pub mod RunText
