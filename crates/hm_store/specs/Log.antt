@@ -1,13 +1,8 @@
 -- What contracts see of a ledger.
-<<<<<<< HEAD
 use Rattle.std.specs.Prelude.{ℕ, List, [], ◌∷◌, take, Option, Some, None}
 use Rattle.hm_base.specs.declared.stamp.Stamp.{Stamp}
 use Rattle.hm_base.specs.declared.entry.Entry.{Entry}
 use Rattle.hm_base.specs.Logs.{end_stamp}
-=======
-use Rattle.std.specs.Prelude.{ℕ, List, take}
-use Rattle.hm_base.specs.declared.entry.Entry.{Entry}
->>>>>>> 0e143a14ad5d06bf7069187055cdaf5e377f3ce5
 use Rattle.hm_store.specs.declared.ledger.TheConstants.{MAX_LOG_LEN}
 
 -- the log, how many of its first entries are applied, and how many entries it may have
@@ -23,11 +18,8 @@ applied_entries log = take log.applied log.entries
 -- the greatest number of entries that a log may have
 abbrev pub max_log_len : ℕ
 max_log_len = MAX_LOG_LEN
-<<<<<<< HEAD
 
 -- the stamp of the last of some entries, if there are any
 abbrev pub last_stamp : List Entry → Option Stamp
 last_stamp [] = None
 last_stamp (e ∷ es) = Some (end_stamp (e ∷ es))
-=======
->>>>>>> 0e143a14ad5d06bf7069187055cdaf5e377f3ce5
