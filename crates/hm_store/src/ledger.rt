@@ -1,8 +1,9 @@
 ghost use Rattle.std.specs.Prelude.{◌≡◌, ◌<◌, ◌≤◌, ◌↔◌, [], ◌∷◌, ◌++◌, length, slice_get, IsOk, IsTrue, IfOk, OnOk, OnErr, nat_eq, vec_len, vec_capacity, ℕ, ◌+◌, drop, take, ◌-◌, fold};
 ghost use Rattle.std.specs.HashMap.{get, hash_map_len, spare};
-ghost use Rattle.hm_base.specs.Logs.{last_write, end_stamp, write_over};
+ghost use Rattle.hm_base.specs.Logs.{last_write, end_stamp, write_over, page, max_page_len};
 ghost use Rattle.hm_store.specs.Log.{applied_entries, last_stamp, max_log_len};
 
+use hm_base::entries::{Entries, MAX_PAGE_LEN};
 use hm_base::entry::{Act, Entry};
 use hm_base::memory::NoMemory;
 use hm_base::room;
@@ -64,6 +65,13 @@ impl Ledger {
         ensures within { result ≤ self.now.cap }
     {
         self.entries.len() as u32
+    }
+
+    /// How many entries the log may have.
+    pub fn cap(&self) -> u32
+        ensures { result ≡ self.now.cap }
+    {
+        self.cap
     }
 
     /// Whether the log has no entry.
@@ -129,6 +137,16 @@ impl Ledger {
         self.entries.get(i as usize).copied()
     }
 
+    /// The page of the log from a place on, empty from `len()` on.
+    pub fn page(&self, from: u32) -> Entries
+        ensures { result ≡ page self.now.entries from }
+    {
+        let end = self.entries.len();
+        let first = end.min(from as usize);
+        let last = end.min(first + MAX_PAGE_LEN);
+        page_of(&self.entries[first..last])
+    }
+
     /// The last applied entry's stamp. None exactly where none is applied.
     pub fn last_applied(&self) -> Option<Stamp>
         ensures { result ≡ last_stamp (applied_entries self.now) }
@@ -180,6 +198,19 @@ fn note_writes(written: &mut HashMap<u32, (Stamp, Value)>, entries: &[Entry])
     for entry in entries {
         note_write(written, entry);
     }
+}
+
+/// The page of some entries.
+fn page_of(entries: &[Entry]) -> Entries
+    requires { length entries.now ≤ max_page_len }
+    ensures { result ≡ entries.now }
+{
+    let mut page = Entries::new();
+    for entry in entries {
+        let _act = entry.act;
+        let _ = page.try_push(*entry);
+    }
+    page
 }
 
 /// The stamp of the last of some entries, if there are any.
