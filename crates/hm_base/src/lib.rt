@@ -11,6 +11,7 @@ pub mod reply;
 pub mod room;
 pub mod spelling;
 pub mod stamp;
+pub mod text;
 pub mod value;
 pub mod verdict;
 pub mod why;

@@ -8,4 +8,5 @@ pub mod outcome;
 pub mod outs;
 pub mod packet;
 pub mod route;
+pub mod text;
 pub mod turn;
