@@ -11,6 +11,8 @@ pub mod reply;
 pub mod room;
 pub mod spelling;
 pub mod stamp;
+#[cfg(test)]
+mod tests;
 pub mod text;
 pub mod value;
 pub mod verdict;
