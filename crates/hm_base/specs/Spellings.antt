@@ -1,5 +1,5 @@
 -- How numbers, values, stamps, operations, answers, nodes and entries are spelled in lines of text.
-use Rattle.std.specs.Prelude.{ℕ, List, [], ◌∷◌, ◌++◌, length, flat_map, codes, decimal}
+use Rattle.std.specs.Prelude.{ℕ, List, [], ◌∷◌, ◌++◌, length, map, flat_map, codes, decimal}
 use Rattle.hex.specs.Hex.{encode_lower}
 use Rattle.hm_base.specs.declared.node.Node.{Node}
 use Rattle.hm_base.specs.declared.node.Node.TheVariants.{Client, Switch, Replica, Config}
@@ -65,7 +65,7 @@ entries_words es = decimal (length es) ∷ flat_map entry_words es
 
 -- their count, then each
 abbrev pub members_words : List ℕ → List (List ℕ)
-members_words ms = decimal (length ms) ∷ flat_map (λ m. decimal m ∷ []) ms
+members_words ms = decimal (length ms) ∷ map decimal ms
 
 abbrev pub entry_text : Entry → List ℕ
 entry_text e = joined (entry_words e)

@@ -66,6 +66,13 @@ impl Entries {
         self.list.as_slice().get(i as usize).copied()
     }
 
+    /// The entries.
+    pub fn as_slice(&self) -> &[Entry]
+        ensures { result.now ≡ self.now }
+    {
+        self.list.as_slice()
+    }
+
     /// An equal page.
     pub fn copy(&self) -> Entries
         ensures { result ≡ self.now }

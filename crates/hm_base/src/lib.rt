@@ -11,6 +11,9 @@ pub mod reply;
 pub mod room;
 pub mod spelling;
 pub mod stamp;
+#[cfg(test)]
+mod tests;
+pub mod text;
 pub mod value;
 pub mod verdict;
 pub mod why;

@@ -55,6 +55,14 @@ impl Members {
         self.list.as_slice().get(i as usize).copied()
     }
 
+    /// The replicas.
+    pub fn as_slice(&self) -> &[u8]
+        ensures same { result.now ≡ self.now }
+        ensures lawful { IsMembers result.now }
+    {
+        self.list.as_slice()
+    }
+
     /// Puts a replica behind the others. Refused exactly above 6 or where it isn't above the last one; then nothing changes.
     pub fn try_push(&mut self, replica: u8) -> Result<(), NotRising>
         ensures ok { OnOk result (self.new ≡ self.old ++ replica ∷ []) }

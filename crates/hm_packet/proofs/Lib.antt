@@ -1,1 +1,2 @@
 mod TextExamples
+pub mod SpacedWords

@@ -3,6 +3,8 @@ ghost use Rattle.hm_packet.specs.Fields.{fields, kind_name};
 
 use crate::body::Body;
 use arrayvec::ArrayVec;
+use hm_base::entry::Act;
+use hm_base::node::Node;
 use hm_base::operation::Answer;
 use hm_base::stamp::Stamp;
 use hm_base::value::Value;
@@ -10,15 +12,19 @@ use hm_base::value::Value;
 /// How many fields a body has at most, without the list at its end.
 pub(crate) const MAX_FIELDS: usize = 5;
 
-/// A field of a body.
+/// A field of a packet, or of an entry.
 #[derive(Clone, Copy, Debug, PartialEq, Eq)]
 pub(crate) enum Field {
+    Node(Node),
     U32(u32),
     U64(u64),
     Replica(u8),
     Stamp(Stamp),
     Value(Value),
     Answer(Answer),
+    Act(Act),
+    /// How many entries or members follow.
+    Count(u8),
 }
 
 impl Default for Field {

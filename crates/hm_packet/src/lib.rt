@@ -8,4 +8,7 @@ pub mod outcome;
 pub mod outs;
 pub mod packet;
 pub mod route;
+#[cfg(test)]
+mod tests;
+pub mod text;
 pub mod turn;

@@ -1,0 +1,132 @@
+ghost use Rattle.std.specs.Prelude.{◌≡◌, ◌∷◌, ◌++◌, decimal, OnOk, OnErr};
+ghost use Rattle.hm_base.specs.Lists.{IsPrefix};
+ghost use Rattle.hm_base.specs.Spellings.{dotted, value_text, act_text, answer_text, stamp_text, op_text, node_text};
+
+use crate::entry::Act;
+use crate::memory::NoMemory;
+use crate::node::Node;
+use crate::operation::{Answer, OpId};
+use crate::stamp::Stamp;
+use crate::value::{MAX_VALUE_LEN, Value};
+use itoa::Buffer;
+
+/// Appends the bytes. After want of memory `out` is as before, here and in the other calls of this module.
+pub fn write_bytes(bytes: &[u8], out: &mut Vec<u8>) -> Result<(), NoMemory>
+    ensures ok { OnOk result (out.new.items ≡ out.old.items ++ bytes.now) }
+    ensures err { OnErr result (out.new.items ≡ out.old.items) }
+{
+    out.extend_from_slice(bytes)?;
+    Ok(())
+}
+
+/// Appends a number in decimal.
+pub fn write_number(number: u64, out: &mut Vec<u8>) -> Result<(), NoMemory>
+    ensures ok { OnOk result (out.new.items ≡ out.old.items ++ decimal number) }
+    ensures err { OnErr result (out.new.items ≡ out.old.items) }
+{
+    let mut buffer = Buffer::new();
+    write_bytes(buffer.format(number).as_bytes(), out)
+}
+
+/// Appends two numbers with a dot between them. After want of memory `out` may have the first ones of these bytes.
+fn push_dotted(first: u64, second: u64, out: &mut Vec<u8>) -> Result<(), NoMemory>
+    ensures ok { OnOk result (out.new.items ≡ out.old.items ++ dotted first second) }
+    ensures err { OnErr result (IsPrefix out.old.items out.new.items) }
+{
+    write_number(first, out)?;
+    write_bytes(b".", out)?;
+    write_number(second, out)
+}
+
+/// Appends two numbers with a dot between them.
+fn write_dotted(first: u64, second: u64, out: &mut Vec<u8>) -> Result<(), NoMemory>
+    ensures ok { OnOk result (out.new.items ≡ out.old.items ++ dotted first second) }
+    ensures err { OnErr result (out.new.items ≡ out.old.items) }
+{
+    let len = out.len();
+    let written = push_dotted(first, second, out);
+    if written.is_err() {
+        out.truncate(len);
+    }
+    written
+}
+
+/// Appends a stamp, as `1.9`.
+pub fn write_stamp(stamp: Stamp, out: &mut Vec<u8>) -> Result<(), NoMemory>
+    ensures ok { OnOk result (out.new.items ≡ out.old.items ++ stamp_text stamp) }
+    ensures err { OnErr result (out.new.items ≡ out.old.items) }
+{
+    write_dotted(u64::from(stamp.switch), stamp.seq, out)
+}
+
+/// Appends an operation, as `7.1`.
+pub fn write_op(op: OpId, out: &mut Vec<u8>) -> Result<(), NoMemory>
+    ensures ok { OnOk result (out.new.items ≡ out.old.items ++ op_text op) }
+    ensures err { OnErr result (out.new.items ≡ out.old.items) }
+{
+    write_dotted(u64::from(op.client), op.request, out)
+}
+
+/// Appends a value in lower-case hexadecimal, or `empty`.
+pub fn write_value(value: &Value, out: &mut Vec<u8>) -> Result<(), NoMemory>
+    ensures ok { OnOk result (out.new.items ≡ out.old.items ++ value_text value.now) }
+    ensures err { OnErr result (out.new.items ≡ out.old.items) }
+{
+    let bytes = value.as_slice();
+    if bytes.is_empty() {
+        return write_bytes(b"empty", out);
+    }
+    let mut room = [0; 2 * MAX_VALUE_LEN];
+    let digits = &mut room[..2 * bytes.len()];
+    let _ = hex::encode_to_slice(bytes, digits);
+    write_bytes(digits, out)
+}
+
+/// Appends what an entry does: its value, or `look`.
+pub fn write_act(act: &Act, out: &mut Vec<u8>) -> Result<(), NoMemory>
+    ensures ok { OnOk result (out.new.items ≡ out.old.items ++ act_text act.now) }
+    ensures err { OnErr result (out.new.items ≡ out.old.items) }
+{
+    match act {
+        Act::Put(value) => write_value(value, out),
+        Act::Look => write_bytes(b"look", out),
+    }
+}
+
+/// Appends an answer: `wrote`, `none` or a value.
+pub fn write_answer(answer: &Answer, out: &mut Vec<u8>) -> Result<(), NoMemory>
+    ensures ok { OnOk result (out.new.items ≡ out.old.items ++ answer_text answer.now) }
+    ensures err { OnErr result (out.new.items ≡ out.old.items) }
+{
+    match answer {
+        Answer::Wrote => write_bytes(b"wrote", out),
+        Answer::Nothing => write_bytes(b"none", out),
+        Answer::Found(value) => write_value(value, out),
+    }
+}
+
+/// Appends a letter and a number.
+fn write_lettered(letter: u8, number: u64, out: &mut Vec<u8>) -> Result<(), NoMemory>
+    ensures ok { OnOk result (out.new.items ≡ out.old.items ++ letter ∷ decimal number) }
+    ensures err { OnErr result (out.new.items ≡ out.old.items) }
+{
+    out.push(letter)?;
+    let written = write_number(number, out);
+    if written.is_err() {
+        out.pop();
+    }
+    written
+}
+
+/// Appends a node: `c7`, `s1`, `r0` or `cfg`.
+pub fn write_node(node: Node, out: &mut Vec<u8>) -> Result<(), NoMemory>
+    ensures ok { OnOk result (out.new.items ≡ out.old.items ++ node_text node) }
+    ensures err { OnErr result (out.new.items ≡ out.old.items) }
+{
+    match node {
+        Node::Client(client) => write_lettered(b'c', u64::from(client), out),
+        Node::Switch(switch) => write_lettered(b's', u64::from(switch), out),
+        Node::Replica(replica) => write_lettered(b'r', u64::from(replica), out),
+        Node::Config => write_bytes(b"cfg", out),
+    }
+}
