@@ -1,1 +1,4 @@
 pub mod Tidies
+pub mod Commits
+pub mod LastWrites
+pub mod Due
