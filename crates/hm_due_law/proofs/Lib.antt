@@ -2,3 +2,4 @@ pub mod Tidies
 pub mod Commits
 pub mod LastWrites
 pub mod Due
+pub mod ReadAnswers

@@ -1,4 +1,4 @@
-//! Why replies are due: answers of reads that rest on a prefix of the declared list.
+//! Why replies are due: each answer of a read rests on a prefix of the declared list.
 #![tactic(auto)]
 
-pub mod laws;
+pub mod answers;

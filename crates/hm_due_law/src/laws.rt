@@ -1,3 +1,0 @@
-ghost use Rattle.std.specs.Prelude.{List};
-
-pub fn placeholder() {}
