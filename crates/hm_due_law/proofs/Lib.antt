@@ -3,3 +3,4 @@ pub mod Commits
 pub mod LastWrites
 pub mod Due
 pub mod ReadAnswers
+pub mod Requests
