@@ -4,3 +4,4 @@ pub mod LastWrites
 pub mod Due
 pub mod ReadAnswers
 pub mod Requests
+pub mod Later
