@@ -1,0 +1,4 @@
+pub mod Tidy
+pub mod Declared
+pub mod Answers
+pub mod Agreed

@@ -1,0 +1,5 @@
+//! Why replies are due: each answer of a read rests on a prefix of the declared list.
+#![tactic(auto)]
+
+pub mod answers;
+pub mod tidy;
