@@ -5,3 +5,4 @@ pub mod Due
 pub mod ReadAnswers
 pub mod Requests
 pub mod Later
+pub mod Agreeing
