@@ -144,7 +144,7 @@ module _ (h : List Mark) (k : List Entry) (e : Entry) (g : Agree h k) (tidy : Is
     records = record {
       tidy = tidy;
       commits = filter-append is_commit h (commit_mark e ∷ []) ∙ ap (λ (l : List Mark). l ++ commit_mark e ∷ []) g.records.commits
-      ∙ sym (ap (map commit_mark) (filter-append is_write k (e ∷ []) ∙ ap (λ (l : List Entry). filter is_write k ++ l) (cond-true (is_write e) (e ∷ []) [] writes)) ∙ map-append commit_mark (filter is_write k) (e ∷ []));
+          ∙ sym (ap (map commit_mark) (filter-append is_write k (e ∷ []) ∙ ap (λ (l : List Entry). filter is_write k ++ l) (cond-true (is_write e) (e ∷ []) [] writes)) ∙ map-append commit_mark (filter is_write k) (e ∷ []));
       invoked = invoked_all (h ++ commit_mark e ∷ []) (prefix_append h (commit_mark e ∷ []));
     };
     looks = λ i j look op stamp a reads c l. looks_write i j look op stamp a reads c l;

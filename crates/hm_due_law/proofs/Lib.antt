@@ -6,3 +6,4 @@ pub mod ReadAnswers
 pub mod Requests
 pub mod Later
 pub mod Agreeing
+pub mod Fresh

@@ -1,15 +1,15 @@
 -- Replies that are due, and what answers of reads rest on.
-use Rattle.std.specs.Prelude.{◌≡◌, ℕ, ◌<◌, ◌≤◌, List, length, Some}
+use Rattle.std.specs.Prelude.{◌≡◌, ℕ, ◌<◌, ◌≤◌, true, List, length, Some}
 use Rattle.hm_base.specs.declared.stamp.Stamp.{Stamp}
 use Rattle.hm_base.specs.declared.entry.Entry.{Entry}
 use Rattle.hm_base.specs.declared.operation.Answer.{Answer}
 use Rattle.hm_base.specs.declared.operation.OpId.{OpId}
 use Rattle.hm_base.specs.Lists.{IsPrefix}
-use Rattle.hm_base.specs.Logs.{end_stamp}
+use Rattle.hm_base.specs.Logs.{is_write, end_stamp}
 use Rattle.hm_base.specs.Stamps.{◌≺◌}
 use Rattle.hm_order.specs.declared.mark.Mark.{Mark}
 use Rattle.hm_order.specs.declared.mark.Want.TheVariants.{Read}
-use Rattle.hm_order.specs.Marks.{invoked_at, want_of}
+use Rattle.hm_order.specs.Marks.{At, invoked_at, want_of}
 use Rattle.hm_order.specs.Legal.{WritesAt, IsDue}
 use Rattle.hm_due_law.specs.Tidy.{HasWrite}
 use Rattle.hm_due_law.specs.Declared.{Records}
@@ -33,3 +33,7 @@ pub record IsFresh (history : List Mark) (declared : List Entry) (op : OpId) (ob
   pub read : want_of history op ≡ Some (Read object)
   pub point : HasWrite declared stamp
   pub later : (k : ℕ) (write : WritesAt history object k) → write.stamp.switch ≡ stamp.switch → stamp.seq < write.stamp.seq → invoked_at history op ≤ k
+
+-- no write of the object in the list has a higher number of the stamp's switch
+abbrev pub IsClean : List Entry → ℕ → Stamp → Type 0
+IsClean declared object stamp = (i : ℕ) (e : Entry) → At declared i e → is_write e ≡ true → e.object ≡ object → e.stamp.switch ≡ stamp.switch → e.stamp.seq ≤ stamp.seq
