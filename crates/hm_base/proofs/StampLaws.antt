@@ -1,10 +1,10 @@
 -- Laws of the order of stamps.
-use Rattle.std.proofs.Common.{◌≡◌, ◌≢◌, ℕ, ◌<◌, ◌≤◌, ◌⊎◌, true, refl, sym, ap, subst, ◌∙◌, arith, inl, inr}
+use Rattle.std.proofs.Common.{◌≡◌, ◌≢◌, ℕ, ◌<◌, ◌≤◌, ◌⊎◌, true, refl, ap, subst, ◌∙◌, arith, inl, inr}
 use Rattle.std.specs.Prelude.{nat_eq, nat_lt, nat_le, ◌&&◌}
-use Rattle.std.proofs.lemmas.Bool.{and_parts, and_from, or_cases, eqb-true, eq-eqb, ltb-true, lt-ltb}
+use Rattle.std.proofs.lemmas.Bool.{and_parts, and_from, or_cases, eqb-true, eq-eqb, ltb-true}
 use Rattle.std.proofs.lemmas.Bool.Decides.{nat_tests}
 use Rattle.hm_base.specs.declared.stamp.Stamp.{Stamp}
-use Rattle.hm_base.specs.Stamps.{least, same_stamp, stamp_le, stamp_lt, ◌≼◌, ◌≺◌}
+use Rattle.hm_base.specs.Stamps.{least, same_stamp, ◌≼◌, ◌≺◌}
 
 pub same_stamp_is : (a b : Stamp) → same_stamp a b ≡ true → a ≡ b
 same_stamp_is a b t =

@@ -1,6 +1,6 @@
 -- The history and the declared list agree at the beginning, and go on agreeing.
-use Rattle.std.proofs.Common.{◌≡◌, ◌≢◌, ℕ, zero, suc, ◌+◌, ◌<◌, ◌≤◌, ◌⊎◌, Bool, true, false, cond, List, [], ◌∷◌, ◌++◌, length, Option, Some, None, refl, sym, ap, subst, ◌∙◌, append_assoc, arith, inl, inr}
-use Rattle.std.specs.Prelude.{filter, map, All, IsTrue}
+use Rattle.std.proofs.Common.{◌≡◌, ℕ, ◌<◌, ◌≤◌, ◌⊎◌, Bool, true, false, List, [], ◌∷◌, ◌++◌, length, Some, refl, sym, ap, subst, ◌∙◌, append_assoc, arith, inl, inr}
+use Rattle.std.specs.Prelude.{filter, map, All}
 use Rattle.std.proofs.lemmas.Bool.{cases_lt, cond-true, cond-false, both_ways}
 use Rattle.std.proofs.lemmas.List.{append-nil, map-append}
 use Rattle.std.proofs.lemmas.List.Elements.{All-nil, All-tail, All-push, All-weaker, filter-append}
@@ -19,12 +19,11 @@ use Rattle.hm_base.proofs.StampLaws.{at_most_then, below_is_other, not_below}
 use Rattle.hm_order.specs.declared.mark.Mark.{Mark}
 use Rattle.hm_order.specs.declared.mark.Mark.TheVariants.{Invoke, Commit, Reply}
 use Rattle.hm_order.specs.declared.mark.Want.{Want}
-use Rattle.hm_order.specs.declared.mark.Want.TheVariants.{Read, Write}
-use Rattle.hm_order.specs.Marks.{At, invoked_at, committed_at, replied_at, want_of}
-use Rattle.hm_order.specs.Legal.{IsWellFormed, IsDue, AllDue}
+use Rattle.hm_order.specs.Marks.{At, invoked_at, committed_at, replied_at}
+use Rattle.hm_order.specs.Legal.{IsWellFormed, IsDue}
 use Rattle.hm_order.proofs.Positions.{commit_found}
 use Rattle.hm_order.proofs.Growth.{at_last, at_push_cases, want_invoked, formed_nil, formed_invoke, formed_commit, formed_reply, all_due_nil, all_due_push}
-use Rattle.hm_due_law.specs.Tidy.{StampsRise, IsTidy}
+use Rattle.hm_due_law.specs.Tidy.{IsTidy}
 use Rattle.hm_due_law.specs.Declared.{op_of, wanted, WasInvoked, commit_mark, is_commit, commit_marks, commits_for, Records, LooksComeFirst}
 use Rattle.hm_due_law.specs.Answers.{IsDueNow}
 use Rattle.hm_due_law.specs.Agreed.{Agree}

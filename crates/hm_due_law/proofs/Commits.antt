@@ -1,31 +1,23 @@
 -- The Commits of a history and the writes of the declared list.
-use Rattle.std.proofs.Common.{◌≡◌, ℕ, zero, suc, ◌+◌, ◌<◌, ◌≤◌, ◌⊎◌, Bool, true, false, cond, List, [], ◌∷◌, ◌++◌, length, Some, refl, sym, ap, subst, ◌∙◌, arith, inl, inr}
-use Rattle.std.specs.Prelude.{slice_get, filter, map, IsTrue, All}
-use Rattle.std.proofs.lemmas.Bool.{cases_lt, cond_both, cond-true, cond-false, both_ways, false≢true}
+use Rattle.std.proofs.Common.{◌≡◌, ℕ, zero, suc, ◌<◌, Bool, true, List, [], ◌∷◌, Some, refl, sym, ap, subst, ◌∙◌, arith}
+use Rattle.std.specs.Prelude.{filter, map}
+use Rattle.std.proofs.lemmas.Bool.{cond_both, both_ways}
 use Rattle.std.proofs.lemmas.Option.{none-some, same_Some}
 use Rattle.hm_base.specs.declared.stamp.Stamp.{Stamp}
 use Rattle.hm_base.specs.declared.entry.Entry.{Entry}
 use Rattle.hm_base.specs.declared.operation.OpId.{OpId}
-use Rattle.hm_base.specs.declared.operation.Answer.{Answer}
 use Rattle.hm_base.specs.Logs.{is_write, writes}
 use Rattle.hm_base.specs.Stamps.{least, ◌≼◌, ◌≺◌}
 use Rattle.hm_base.proofs.StampLaws.{then_below, below_at_most}
 use Rattle.hm_order.specs.declared.mark.Mark.{Mark}
 use Rattle.hm_order.specs.declared.mark.Mark.TheVariants.{Invoke, Commit, Reply}
-use Rattle.hm_order.specs.declared.mark.Want.{Want}
 use Rattle.hm_order.specs.Marks.{At}
-use Rattle.hm_due_law.specs.Tidy.{may_follow, StampsRise, IsTidy}
-use Rattle.hm_due_law.specs.Declared.{op_of, commit_mark, is_commit, commit_marks, commits_for, Records}
+use Rattle.hm_order.proofs.Lists.{filter_contains}
+use Rattle.hm_due_law.specs.Tidy.{StampsRise, IsTidy}
+use Rattle.hm_due_law.specs.Declared.{op_of, commit_mark, is_commit, commit_marks, commits_for}
 use Rattle.hm_due_law.proofs.Tidies.{follows, write_follows}
 
 -- ---- filters and maps by place
-
-pub at_filter : {A : Type 0} (p : A → Bool) (xs : List A) (i : ℕ) (x : A) → At xs i x → p x ≡ true → (j : ℕ) × At (filter p xs) j x
-at_filter p [] i x e t = absurd (none-some x e)
-at_filter {A} p (y ∷ xs) zero x e t = cond_both (p y) (y ∷ filter p xs) (filter p xs) (λ (l : List A). (j : ℕ) × At l j x) (λ yes. (0, e)) (λ no. absurd (both_ways (p y) no (ap p (same_Some y x e) ∙ t)))
-at_filter {A} p (y ∷ xs) (suc i) x e t =
-    let r : (j : ℕ) × At (filter p xs) j x = at_filter p xs i x e t in
-    cond_both (p y) (y ∷ filter p xs) (filter p xs) (λ (l : List A). (j : ℕ) × At l j x) (λ yes. (suc r.0, r.1)) (λ no. r)
 
 pub filter_at : {A : Type 0} (p : A → Bool) (xs : List A) (j : ℕ) (x : A) → At (filter p xs) j x → (i : ℕ) × At xs i x × (p x ≡ true)
 filter_at p [] j x e = absurd (none-some x e)
@@ -60,7 +52,7 @@ pub record IsOfWrite (declared : List Entry) (op : OpId) (stamp : Stamp) : Type 
 
 pub commit_of_write : (h : List Mark) (k : List Entry) (i : ℕ) (op : OpId) (stamp : Stamp) → commit_marks h ≡ commits_for k → At h i (Commit op stamp) → IsOfWrite k op stamp
 commit_of_write h k i op stamp same e =
-    let f : (j : ℕ) × At (commit_marks h) j (Commit op stamp) = at_filter is_commit h i (Commit op stamp) e refl in
+    let f : (j : ℕ) × At (commit_marks h) j (Commit op stamp) = filter_contains is_commit h i (Commit op stamp) e refl in
     let m : (x : Entry) × At (writes k) f.0 x × (commit_mark x ≡ Commit op stamp) = map_at commit_mark (writes k) f.0 (Commit op stamp) (subst (λ (l : List Mark). At l f.0 (Commit op stamp)) same f.1) in
     let g : (i : ℕ) × At k i m.0 × (is_write m.0 ≡ true) = filter_at is_write k f.0 m.0 m.1 in
     let o : commit_mark m.0 ≡ Commit op stamp = m.2 in
@@ -68,7 +60,7 @@ commit_of_write h k i op stamp same e =
 
 pub write_has_commit : (h : List Mark) (k : List Entry) (i : ℕ) (e : Entry) → commit_marks h ≡ commits_for k → At k i e → is_write e ≡ true → (j : ℕ) × At h j (Commit (op_of e) e.stamp)
 write_has_commit h k i e same a w =
-    let f : (j : ℕ) × At (writes k) j e = at_filter is_write k i e a w in
+    let f : (j : ℕ) × At (writes k) j e = filter_contains is_write k i e a w in
     let m : At (commit_marks h) f.0 (Commit (op_of e) e.stamp) = subst (λ (l : List Mark). At l f.0 (Commit (op_of e) e.stamp)) (sym same) (at_map commit_mark (writes k) f.0 e f.1) in
     let g : (i : ℕ) × At h i (Commit (op_of e) e.stamp) × (is_commit (Commit (op_of e) e.stamp) ≡ true) = filter_at is_commit h f.0 (Commit (op_of e) e.stamp) m in
     (g.0, g.1)

@@ -1,5 +1,5 @@
 -- Answers from a prefix of the declared list are due.
-use Rattle.std.proofs.Common.{◌≡◌, ◌≢◌, ℕ, ◌<◌, ◌≤◌, ◌⊎◌, true, false, List, length, Option, Some, None, refl, sym, ap, subst, ◌∙◌, arith, inl, inr}
+use Rattle.std.proofs.Common.{◌≡◌, ℕ, ◌<◌, ◌≤◌, true, List, length, Option, Some, refl, sym, ap, subst, ◌∙◌, arith, inl, inr}
 use Rattle.std.specs.Prelude.{slice_get}
 use Rattle.std.proofs.lemmas.Bool.{cases_lt, both_ways}
 use Rattle.std.proofs.lemmas.Option.{same_Some, slice_get_within}
@@ -7,21 +7,17 @@ use Rattle.hm_base.specs.declared.stamp.Stamp.{Stamp}
 use Rattle.hm_base.specs.declared.entry.Entry.{Entry}
 use Rattle.hm_base.specs.declared.entry.Act.{Act}
 use Rattle.hm_base.specs.declared.entry.Act.TheVariants.{Put, Look}
-use Rattle.hm_base.specs.declared.operation.Answer.{Answer}
 use Rattle.hm_base.specs.declared.operation.Answer.TheVariants.{Nothing, Found}
 use Rattle.hm_base.specs.declared.operation.OpId.{OpId}
-use Rattle.hm_base.specs.Lists.{IsPrefix}
-use Rattle.hm_base.specs.Logs.{is_put, is_write, end_stamp, last_write, reply_of, latest}
+use Rattle.hm_base.specs.Logs.{is_put, is_write, end_stamp, reply_of, latest}
 use Rattle.hm_base.specs.Stamps.{least, ◌≼◌, ◌≺◌}
 use Rattle.hm_base.proofs.ListLaws.{prefix_at, prefix_at_back, each_at}
 use Rattle.hm_base.proofs.StampLaws.{at_most_same, below_at_most, below_is_other, not_below}
 use Rattle.hm_order.specs.declared.mark.Mark.{Mark}
 use Rattle.hm_order.specs.declared.mark.Mark.TheVariants.{Commit}
-use Rattle.hm_order.specs.declared.mark.Want.{Want}
 use Rattle.hm_order.specs.declared.mark.Want.TheVariants.{Read, Write}
 use Rattle.hm_order.specs.Marks.{At, invoked_at, want_of}
-use Rattle.hm_order.specs.Legal.{WritesAt, IsSeen, IsDue}
-use Rattle.hm_due_law.specs.Tidy.{IsTidy}
+use Rattle.hm_order.specs.Legal.{WritesAt, IsSeen}
 use Rattle.hm_due_law.specs.Declared.{op_of, wanted, WasInvoked, Records}
 use Rattle.hm_due_law.specs.Answers.{IsDueNow, PrefixAnswer}
 use Rattle.hm_due_law.proofs.Tidies.{tidy_beyond, tidy_two, tidy_write}

@@ -1,23 +1,20 @@
 -- What stays as the history and the declared list grow.
-use Rattle.std.proofs.Common.{◌≡◌, ◌≢◌, ℕ, ◌<◌, ◌≤◌, ◌⊎◌, Bool, true, false, List, [], ◌∷◌, ◌++◌, length, Option, Some, None, refl, sym, ap, subst, ◌∙◌, arith, inl, inr}
-use Rattle.std.specs.Prelude.{slice_get, All, IsTrue}
+use Rattle.std.proofs.Common.{◌≡◌, ℕ, ◌<◌, ◌≤◌, Bool, true, List, length, Some, sym, ap, ◌∙◌, arith, inl, inr}
+use Rattle.std.specs.Prelude.{slice_get}
 use Rattle.std.specs.List.{position_or_len}
 use Rattle.std.proofs.lemmas.Bool.{cases_lt}
-use Rattle.std.proofs.lemmas.Option.{same_Some, slice_get_within}
 use Rattle.hm_base.specs.declared.stamp.Stamp.{Stamp}
 use Rattle.hm_base.specs.declared.entry.Entry.{Entry}
 use Rattle.hm_base.specs.declared.operation.Answer.{Answer}
 use Rattle.hm_base.specs.declared.operation.OpId.{OpId}
 use Rattle.hm_base.specs.Lists.{IsPrefix}
-use Rattle.hm_base.specs.Logs.{is_write}
-use Rattle.hm_base.specs.Stamps.{least, ◌≺◌}
 use Rattle.hm_base.proofs.ListLaws.{prefix-length, prefix_at, prefix_at_back}
 use Rattle.hm_order.specs.declared.mark.Mark.{Mark}
-use Rattle.hm_order.specs.declared.mark.Mark.TheVariants.{Invoke, Commit, Reply}
+use Rattle.hm_order.specs.declared.mark.Mark.TheVariants.{Invoke, Commit}
 use Rattle.hm_order.specs.declared.mark.Want.{Want}
 use Rattle.hm_order.specs.declared.mark.Want.TheVariants.{Read, Write}
 use Rattle.hm_order.specs.Marks.{At, invokes, invoked_at, want_in, want_of}
-use Rattle.hm_order.specs.Legal.{IsWellFormed, WritesAt, IsSeen, IsDue}
+use Rattle.hm_order.specs.Legal.{IsWellFormed, WritesAt, IsSeen}
 use Rattle.hm_order.proofs.Lists.{first_at, first_le}
 use Rattle.hm_order.proofs.Positions.{invoke_found, invoked_le}
 use Rattle.hm_order.proofs.Growth.{want_invoked}

@@ -7,3 +7,4 @@ pub mod Requests
 pub mod Later
 pub mod Agreeing
 pub mod Fresh
+mod Examples

@@ -1,7 +1,7 @@
 -- Each answer of a read, as an answer from a prefix of the declared list; and the reply of a completion.
-use Rattle.std.proofs.Common.{◌≡◌, ℕ, ◌<◌, ◌≤◌, ◌⊎◌, Bool, true, false, cond, List, length, Option, Some, None, refl, sym, ap, subst, ◌∙◌, arith, inl, inr}
+use Rattle.std.proofs.Common.{◌≡◌, ℕ, ◌<◌, ◌≤◌, Bool, true, false, cond, List, length, Option, Some, None, refl, sym, ap, subst, ◌∙◌, arith, inl, inr}
 use Rattle.std.specs.Prelude.{slice_get, nat_eq, ◌&&◌}
-use Rattle.std.proofs.lemmas.Bool.{cases_lt, cond-true, cond-false, both_ways, and_parts, eqb-true}
+use Rattle.std.proofs.lemmas.Bool.{cases_lt, both_ways, and_parts, eqb-true}
 use Rattle.std.proofs.lemmas.Option.{same_Some, slice_get_within}
 use Rattle.hm_base.specs.declared.stamp.Stamp.{Stamp}
 use Rattle.hm_base.specs.declared.entry.Entry.{Entry}
@@ -22,7 +22,7 @@ use Rattle.hm_order.specs.Marks.{At, invoked_at, want_of}
 use Rattle.hm_order.specs.Legal.{WritesAt}
 use Rattle.hm_due_law.specs.Tidy.{IsTidy, HasWrite}
 use Rattle.hm_due_law.specs.Declared.{op_of, wanted, WasInvoked, Records, LooksComeFirst, NoneAbove}
-use Rattle.hm_due_law.specs.Answers.{IsDueNow, PrefixAnswer, IsFresh}
+use Rattle.hm_due_law.specs.Answers.{IsDueNow, IsFresh}
 use Rattle.hm_due_law.proofs.Tidies.{tidy_at, tidy_reached, tidy_prefix}
 use Rattle.hm_due_law.proofs.Commits.{write_has_commit}
 use Rattle.hm_due_law.proofs.LastWrites.{NoWrite, IsLastWrite, last_write_cases}

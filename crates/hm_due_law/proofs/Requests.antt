@@ -1,7 +1,7 @@
 -- A client's greatest request in a list, and which entries keep a list tidy.
-use Rattle.std.proofs.Common.{◌≡◌, ℕ, zero, suc, ◌+◌, ◌<◌, ◌≤◌, ◌⊎◌, Bool, true, false, cond, List, [], ◌∷◌, ◌++◌, length, Option, Some, None, refl, sym, ap, subst, ◌∙◌, arith, inl, inr}
-use Rattle.std.specs.Prelude.{nat_lt, nat_eq, ◌&&◌, IsTrue}
-use Rattle.std.proofs.lemmas.Bool.{cases_lt, cond_both, cond-true, cond-false, both_ways, and_parts, and_from, eq-eqb, eqb-true, ltb-true, lt-ltb, false_from_ne_true}
+use Rattle.std.proofs.Common.{◌≡◌, ℕ, zero, suc, ◌+◌, ◌<◌, ◌≤◌, ◌⊎◌, Bool, true, false, cond, List, [], ◌∷◌, ◌++◌, Option, Some, None, refl, sym, ap, subst, ◌∙◌, arith, inl, inr}
+use Rattle.std.specs.Prelude.{nat_lt, nat_eq, ◌&&◌}
+use Rattle.std.proofs.lemmas.Bool.{cond_both, cond-true, cond-false, both_ways, and_parts, and_from, eq-eqb, eqb-true, ltb-true, false_from_ne_true}
 use Rattle.std.proofs.lemmas.Bool.Decides.{nat_tests}
 use Rattle.std.proofs.lemmas.Option.{none-some, same_Some}
 use Rattle.hm_base.specs.declared.stamp.Stamp.{Stamp}
@@ -9,14 +9,13 @@ use Rattle.hm_base.specs.declared.entry.Entry.{Entry}
 use Rattle.hm_base.specs.declared.verdict.LatestRequest.{LatestRequest}
 use Rattle.hm_base.specs.declared.verdict.Verdict.{Verdict}
 use Rattle.hm_base.specs.declared.verdict.Verdict.TheVariants as verdict
-use Rattle.hm_base.specs.declared.verdict.Admit.{Admit}
 use Rattle.hm_base.specs.declared.verdict.Admit.TheVariants as admit
 use Rattle.hm_base.specs.declared.why.Why.TheVariants as why
 use Rattle.hm_base.specs.Logs.{is_write, end_stamp, is_newer, newest, greatest_from, greatest_request}
 use Rattle.hm_base.specs.Verdicts.{judged, judge, admitted, admission}
 use Rattle.hm_base.specs.Stamps.{stamp_lt, ◌≺◌}
 use Rattle.hm_order.specs.Marks.{At}
-use Rattle.hm_due_law.specs.Tidy.{may_follow, IsTidy}
+use Rattle.hm_due_law.specs.Tidy.{IsTidy}
 use Rattle.hm_due_law.proofs.Tidies.{write_may, look_may, tidy_push}
 
 -- ---- the greatest request is none of the client's only, and at least each of them

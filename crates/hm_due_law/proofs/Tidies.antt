@@ -1,16 +1,16 @@
 -- Laws of tidy lists.
-use Rattle.std.proofs.Common.{◌≡◌, ℕ, zero, suc, ◌+◌, ◌<◌, ◌≤◌, ◌⊎◌, Bool, true, false, cond, List, [], ◌∷◌, ◌++◌, length, Some, None, Option, refl, sym, ap, subst, ◌∙◌, arith, inl, inr}
-use Rattle.std.specs.Prelude.{fold, slice_get, nat_lt, nat_eq, ◌&&◌, IsTrue}
-use Rattle.std.proofs.lemmas.Bool.{cases_lt, cond_both, cond-true, cond-false, both_ways, eq-eqb, eqb-true, ltb-true, lt-ltb}
+use Rattle.std.proofs.Common.{◌≡◌, ℕ, zero, suc, ◌<◌, ◌≤◌, Bool, true, false, List, [], ◌∷◌, ◌++◌, length, refl, sym, ap, subst, ◌∙◌, arith, inl, inr}
+use Rattle.std.specs.Prelude.{fold, nat_lt, nat_eq, IsTrue}
+use Rattle.std.proofs.lemmas.Bool.{cases_lt, cond_both, cond-true, cond-false, eq-eqb, eqb-true, ltb-true, lt-ltb}
 use Rattle.std.proofs.lemmas.List.Sums.{fold-append}
-use Rattle.std.proofs.lemmas.Option.{none-some, same_Some, slice_get_within}
+use Rattle.std.proofs.lemmas.Option.{none-some, same_Some}
 use Rattle.hm_base.specs.declared.stamp.Stamp.{Stamp}
 use Rattle.hm_base.specs.declared.entry.Entry.{Entry}
 use Rattle.hm_base.specs.declared.operation.OpId.{OpId}
 use Rattle.hm_base.specs.Lists.{IsPrefix}
 use Rattle.hm_base.specs.Logs.{is_write, end_stamp}
 use Rattle.hm_base.specs.Stamps.{least, same_stamp, stamp_lt, ◌≼◌, ◌≺◌}
-use Rattle.hm_base.proofs.StampLaws.{same_stamp_is, same_stamp_self, at_most_same, at_most_then, below_at_most, at_most_both, below_then, then_below, not_below, at_most_or_above}
+use Rattle.hm_base.proofs.StampLaws.{same_stamp_is, same_stamp_self, at_most_same, at_most_then, below_at_most, at_most_both, then_below, not_below, at_most_or_above}
 use Rattle.hm_base.proofs.ListLaws.{prefix_at_back}
 use Rattle.hm_order.specs.Marks.{At}
 use Rattle.hm_due_law.specs.Tidy.{may_follow, StampsRise, comes_later, AllLater, RequestsRise, IsTidy, HasWrite}

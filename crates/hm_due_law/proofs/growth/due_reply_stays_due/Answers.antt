@@ -1,5 +1,4 @@
-use Rattle.std.proofs.Common.{◌∷◌, [], arith}
-use Rattle.hm_base.proofs.ListLaws.{prefix_append}
+use Rattle.std.proofs.Common.{arith}
 use Rattle.hm_order.specs.declared.mark.Mark.TheVariants.{Reply}
 use Rattle.hm_order.proofs.Growth.{due_push}
 use Rattle.hm_due_law.proofs.Later.{due_later}
