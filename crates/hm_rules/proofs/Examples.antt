@@ -10,7 +10,7 @@ use Rattle.hm_packet.specs.declared.body.Body.TheVariants.{Read}
 use Rattle.hm_packet.specs.declared.body.Vote.{Vote}
 use Rattle.hm_packet.specs.Messages.{Message}
 use Rattle.hm_rules.specs.Events.{Event, Setup}
-use Rattle.hm_rules.specs.ViewChange.{Ballot, ballots_from, best}
+use Rattle.hm_rules.specs.Votes.{Ballot, ballots_from, best}
 use Rattle.hm_rules.specs.Runs.{full_events}
 use Rattle.hm_rules.specs.RunText.{run_text, refused_events, summary}
 use Rattle.hm_rules.proofs.Rows.{group, lines}
@@ -30,6 +30,10 @@ full_here = refl
 shown_full : refused_events (run_text one_slot table_is_full (4 ∷ [])) ≡ 4 ∷ []
 unfolding digits encode_with
 shown_full = refl
+
+-- with room for both objects no write finds the table full, though one object is dirty and the other isn't
+full_nowhere : full_events (record (group Chain 1) { stages = 1 }) table_is_full ≡ []
+full_nowhere = refl
 
 -- elsewhere a refusal is without effect: at the event before, and where the table has room
 refused_elsewhere : run_text one_slot table_is_full (3 ∷ 4 ∷ []) ≡ run_text one_slot table_is_full (4 ∷ [])

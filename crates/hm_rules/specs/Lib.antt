@@ -6,6 +6,7 @@ pub mod Replica
 pub mod ReplicaSteps
 pub mod Chain
 pub mod PrimaryBackup
+pub mod Votes
 pub mod ViewChange
 pub mod Viewstamped
 pub mod Service
@@ -16,3 +17,15 @@ pub mod Deliveries
 pub mod Happens
 pub mod Runs
 pub mod RunText
+pub use Rattle.hm_base.specs.Stamps
+pub use Rattle.hm_base.specs.Lists
+pub use Rattle.hm_base.specs.Logs
+pub use Rattle.hm_base.specs.Verdicts
+pub use Rattle.hm_base.specs.Slots
+pub use Rattle.hm_base.specs.Taking
+pub use Rattle.hm_packet.specs.Messages
+pub use Rattle.hm_packet.specs.Routing
+pub use Rattle.hm_packet.specs.Texts
+pub use Rattle.hm_order.specs.Marks
+pub use Rattle.hm_order.specs.Order
+pub use Rattle.hm_order.specs.Legal
