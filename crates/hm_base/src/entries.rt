@@ -1,6 +1,6 @@
 ghost use Rattle.hm_base.specs.Logs.{max_page_len};
 ghost use Rattle.arrayvec.specs.ArrayVec.{array_vec_len};
-ghost use Rattle.std.specs.Prelude.{◌≡◌, ◌<◌, ◌↔◌, [], ◌∷◌, ◌++◌, length, slice_get, ◌+◌, IsOk, OnOk, OnErr};
+ghost use Rattle.std.specs.Prelude.{◌≡◌, ◌<◌, ◌≤◌, ◌↔◌, [], ◌∷◌, ◌++◌, length, slice_get, ◌+◌, IsOk, OnOk, OnErr};
 
 use crate::entry::{Act, Entry};
 use arrayvec::ArrayVec;
@@ -68,7 +68,8 @@ impl Entries {
 
     /// The entries.
     pub fn as_slice(&self) -> &[Entry]
-        ensures { result.now ≡ self.now }
+        ensures same { result.now ≡ self.now }
+        ensures fits { length result.now ≤ max_page_len }
     {
         self.list.as_slice()
     }

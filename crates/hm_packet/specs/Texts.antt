@@ -3,7 +3,7 @@ use Rattle.std.specs.Prelude.{ℕ, List, [], ◌∷◌, ◌++◌, map, decimal}
 use Rattle.hm_base.specs.Spellings.{joined, node_text, stamp_text, answer_text, act_text, value_text, entries_words, members_words}
 use Rattle.hm_packet.specs.declared.body.Body.{Body}
 use Rattle.hm_packet.specs.declared.field.Field.{Field}
-use Rattle.hm_packet.specs.declared.field.Field.TheVariants.{Node, U32, U64, Replica, Stamp, Value, Answer, Act, Count}
+use Rattle.hm_packet.specs.declared.field.Field.TheVariants.{Node, U32, U64, Replica, Stamp, Value, Answer, Act}
 use Rattle.hm_packet.specs.Fields.{kind_name, fields, tail, Tail}
 use Rattle.hm_packet.specs.Messages.{Message}
 
@@ -17,7 +17,6 @@ field_text (Stamp s) = stamp_text s
 field_text (Value v) = value_text v
 field_text (Answer a) = answer_text a
 field_text (Act a) = act_text a
-field_text (Count n) = decimal n
 
 abbrev pub tail_words : Tail → List (List ℕ)
 tail_words Tail.none = []

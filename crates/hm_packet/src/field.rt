@@ -10,11 +10,11 @@ use hm_base::stamp::Stamp;
 use hm_base::value::Value;
 
 /// How many fields a body has at most, without the list at its end.
-pub(crate) const MAX_FIELDS: usize = 5;
+pub const MAX_FIELDS: usize = 5;
 
 /// A field of a packet, or of an entry.
 #[derive(Clone, Copy, Debug, PartialEq, Eq)]
-pub(crate) enum Field {
+pub enum Field {
     Node(Node),
     U32(u32),
     U64(u64),
@@ -23,10 +23,9 @@ pub(crate) enum Field {
     Value(Value),
     Answer(Answer),
     Act(Act),
-    /// How many entries or members follow.
-    Count(u8),
 }
 
+/// The blank that short lists of fields are made of.
 impl Default for Field {
     fn default() -> Field {
         Field::U32(0)
@@ -34,7 +33,7 @@ impl Default for Field {
 }
 
 /// The name of a body's kind, in lower case.
-pub(crate) fn kind_name(body: &Body) -> &'static [u8]
+pub fn kind_name(body: &Body) -> &'static [u8]
     ensures { result.now ≡ kind_name body.now }
 {
     match body {
@@ -61,7 +60,7 @@ pub(crate) fn kind_name(body: &Body) -> &'static [u8]
 }
 
 /// A body's fields in order, without the list of entries or members at its end.
-pub(crate) fn fields(body: &Body) -> ArrayVec<Field, MAX_FIELDS>
+pub fn fields(body: &Body) -> ArrayVec<Field, MAX_FIELDS>
     ensures { result.items ≡ fields body.now }
 {
     use Field::{Answer, Replica, Stamp, U32, U64, Value};

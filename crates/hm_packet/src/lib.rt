@@ -3,7 +3,7 @@
 
 pub mod acted;
 pub mod body;
-mod field;
+pub mod field;
 pub mod outcome;
 pub mod outs;
 pub mod packet;

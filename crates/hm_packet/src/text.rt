@@ -36,7 +36,6 @@ fn write_field(field: &Field, out: &mut Vec<u8>) -> Result<(), NoMemory>
         Field::Value(value) => write_value(value, out),
         Field::Answer(answer) => write_answer(answer, out),
         Field::Act(act) => write_act(act, out),
-        Field::Count(count) => write_number(u64::from(*count), out),
     }
 }
 
