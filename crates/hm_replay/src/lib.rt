@@ -1,0 +1,7 @@
+//! The program's top call: the bytes of a schedule in, the bytes of its run out.
+#![tactic(auto)]
+
+pub mod adapters;
+pub mod memory;
+pub mod outside;
+pub mod sure;
