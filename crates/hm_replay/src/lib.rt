@@ -2,6 +2,7 @@
 #![tactic(auto)]
 
 pub mod adapters;
+pub mod lines;
 pub mod memory;
 pub mod outside;
 pub mod sure;
