@@ -1,3 +1,5 @@
 pub mod Copied
 pub mod KnownBytes
-pub mod Ranges
+pub mod BufferParts
+pub mod FieldTexts
+pub mod Names

@@ -1,6 +1,5 @@
 -- Sources and sinks in memory.
-use Rattle.std.specs.Prelude.{ℕ, ◌+◌, ◌-◌, ◌≤◌, ◌<◌, List, Contains, length, ◌⊎◌}
-use Rattle.hm_replay.specs.Faults.{one_more}
+use Rattle.std.specs.Prelude.{ℕ, List}
 
 -- a source in memory: the bytes left, the numbers of the calls that are to fail, the calls so far, and the faults among them
 pub record Supply : Type 0 where

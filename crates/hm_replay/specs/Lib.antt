@@ -4,4 +4,7 @@ pub mod Ends
 pub mod Faults
 pub mod Fills
 pub mod LineTexts
+pub mod LineWords
 pub mod Lines
+pub mod Ranges
+pub mod Schedules

@@ -2,7 +2,9 @@
 #![tactic(auto)]
 
 pub mod adapters;
+mod fields;
 pub mod lines;
 pub mod memory;
 pub mod outside;
+pub mod schedule;
 pub mod sure;

@@ -1,5 +1,4 @@
-ghost use Rattle.std.specs.Prelude.{◌≡◌, ◌+◌, ◌-◌, ◌<◌, ◌≤◌, ◌↔◌, ℕ, List, [], ◌++◌, length, take, drop, slice_range, vec_len, IfOk, OnErr, IfSome, IfNone, MatchResult};
-ghost use Rattle.std.specs.Io.KnownBytes.{Consumes, Keeps, IsAtEnd};
+ghost use Rattle.std.specs.Prelude.{◌≡◌, ◌+◌, ◌-◌, ◌<◌, ◌≤◌, [], ◌++◌, length, take, drop, slice_range, vec_len, IfOk, IfSome, IfNone};
 ghost use Rattle.hm_replay.specs.Faults.{HasCause};
 ghost use Rattle.hm_replay.specs.LineTexts.{IsLine, ended};
 ghost use Rattle.hm_replay.specs.Fills.{Fills, filled_count};

@@ -1,4 +1,4 @@
-use Rattle.hm_replay.proofs.Ranges.{refilled}
+use Rattle.hm_replay.proofs.BufferParts.{refilled}
 use Rattle.hm_replay.proofs.lines.refill.Goals as goal
 
 pub returns-clause-bytes : goal.returns-clause-bytes

@@ -1,4 +1,4 @@
-use Rattle.std.proofs.Common.{◌≡◌, ◌≤◌, ◌<◌, ◌+◌, ◌-◌, take, length, drop, arith, subst, List, ℕ}
+use Rattle.std.proofs.Common.{◌≤◌, ◌-◌, take, length, drop, arith, subst, List, ℕ}
 use Rattle.std.proofs.lemmas.List.{length-drop, length-take, take_all}
 use Rattle.std.specs.Io.KnownBytes.{Appends}
 use Rattle.hm_replay.proofs.KnownBytes.{put_more, put_part}

@@ -1,7 +1,6 @@
-use Rattle.std.proofs.Common.{◌≡◌, ◌≤◌, ap, refl, arith, length}
-use Rattle.std.specs.Prelude.{slice_range}
-use Rattle.hm_replay.specs.Lines.{Reading, max_line_len}
-use Rattle.hm_replay.proofs.Ranges.{seen_range, cut_at, overlong_line, overlong_part}
+use Rattle.std.proofs.Common.{ap, refl}
+use Rattle.hm_replay.specs.Lines.{Reading}
+use Rattle.hm_replay.proofs.BufferParts.{seen_range, cut_at, overlong_line, overlong_part}
 use Rattle.hm_replay.proofs.lines.LineReader.cut.Goals as goal
 
 pub returns-else-len-gt-MAX_LINE_LEN : goal.returns-else-len-gt-MAX_LINE_LEN

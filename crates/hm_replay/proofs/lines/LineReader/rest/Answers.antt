@@ -1,6 +1,6 @@
 use Rattle.std.proofs.Common.{ap}
 use Rattle.hm_replay.specs.Lines.{Reading}
-use Rattle.hm_replay.proofs.Ranges.{rest_some}
+use Rattle.hm_replay.proofs.BufferParts.{rest_some}
 use Rattle.hm_replay.proofs.lines.LineReader.rest.Goals as goal
 
 pub returns-else-self : goal.returns-else-self

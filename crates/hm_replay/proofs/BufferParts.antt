@@ -1,10 +1,9 @@
 -- Parts of a buffer of lines.
-use Rattle.std.proofs.Common.{◌≡◌, ℕ, ◌+◌, ◌-◌, ◌≤◌, ◌<◌, List, [], ◌∷◌, ◌++◌, length, take, drop, Option, Result, Ok, Err, refl, sym, ap, subst, ◌∙◌, append_assoc, arith}
+use Rattle.std.proofs.Common.{◌≡◌, ℕ, ◌+◌, ◌-◌, ◌≤◌, ◌<◌, List, [], ◌∷◌, ◌++◌, length, take, drop, Option, Result, Ok, Err, refl, sym, ap, subst, ◌∙◌, arith}
 use Rattle.std.specs.Prelude.{slice_range, ◌≢◌}
 use Rattle.std.specs.List.{copy_within}
-use Rattle.std.proofs.lemmas.List.{append-nil, length-take, length-drop, length-append, take-take, take-append-le, take_at, drop-take, drop-drop}
+use Rattle.std.proofs.lemmas.List.{append-nil, length-take, length-drop, take-take, take-append-le, take_at, drop-take, drop-drop}
 use Rattle.std.proofs.lemmas.List.Elements.{All-take}
-use Rattle.std.proofs.lemmas.Slice.{take-put_mid}
 use Rattle.std.specs.Io.{ReadsAtMost}
 use Rattle.std.specs.Io.KnownBytes.{ReadConsumes}
 use borrow.Rule.Slice.PartMut.{put_mid}
@@ -13,7 +12,7 @@ use Rattle.hm_replay.specs.LineTexts.{IsLine, ended}
 use Rattle.hm_replay.specs.Lines.{IsOverlong, max_line_len, rest_of}
 use Rattle.hm_replay.specs.declared.lines.Found.TheVariants.{Unfinished}
 use Rattle.hm_replay.specs.Buffers.{buffer_len}
-use Rattle.hm_replay.specs.Fills.{Fills, FillsBy, filled_count}
+use Rattle.hm_replay.specs.Fills.{Fills, filled_count}
 
 length-slice_range : (bytes : List ℕ) (start end : ℕ) → start ≤ end → end ≤ length bytes → length (slice_range bytes start end) ≡ end - start
 length-slice_range bytes start end order within = omega (arith, length-take (end - start) (drop start bytes), length-drop start bytes)
