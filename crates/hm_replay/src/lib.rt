@@ -8,3 +8,4 @@ pub mod memory;
 pub mod outside;
 pub mod schedule;
 pub mod sure;
+pub mod words;
