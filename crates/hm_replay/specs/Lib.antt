@@ -7,4 +7,5 @@ pub mod LineTexts
 pub mod LineWords
 pub mod Lines
 pub mod Ranges
+pub mod Reasons
 pub mod Schedules

@@ -6,6 +6,7 @@ mod fields;
 pub mod lines;
 pub mod memory;
 pub mod outside;
+mod run_text;
 pub mod schedule;
 pub mod sure;
 pub mod words;
