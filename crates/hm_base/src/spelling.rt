@@ -84,6 +84,7 @@ fn is_hex_of(bytes: &[u8], text: &[u8]) -> bool
 /// The value that a text spells: `empty` for no bytes, else 2 to 128 lower-case hexadecimal digits. None exactly for any other text.
 pub fn read_value(text: &[u8]) -> Option<Value>
     ensures some { IfSome result (λ v. text.now ≡ value_text v) }
+    ensures lawful { IfSome result (λ v. IsBytes v × (length v ≤ max_value_len)) }
     ensures none { IfNone result ((v : List ℕ) → IsBytes v → length v ≤ max_value_len → text.now ≢ value_text v) }
 {
     if text == b"empty".as_slice() {
@@ -94,7 +95,8 @@ pub fn read_value(text: &[u8]) -> Option<Value>
     }
     match hex_bytes(text) {
         Some(value) => {
-            if is_hex_of(value.as_slice(), text) {
+            let bytes = value.as_slice();
+            if is_hex_of(bytes, text) {
                 Some(value)
             } else {
                 None

@@ -11,4 +11,4 @@ returns-then-is_empty-clause-none c v bytes len e =
     omega (arith, value_text-some v)
 
 pub returns-then-is_hex_of-clause-some : goal.returns-then-is_hex_of-clause-some
-returns-then-is_hex_of-clause-some c = value_by_hex _ _ (c.is_hex_of.ensures.0 c.if-is_hex_of.true ∙ ap encode_lower c.as_slice-in-Some.ensures.same) (sym c.is_empty.ensures ∙ c.if-is_empty.false)
+returns-then-is_hex_of-clause-some c = value_by_hex _ _ (c.is_hex_of.ensures.0 c.if-is_hex_of.true ∙ ap encode_lower c.as_slice-bytes.ensures.same) (sym c.is_empty.ensures ∙ c.if-is_empty.false)

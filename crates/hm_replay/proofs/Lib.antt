@@ -1,0 +1,5 @@
+pub mod Copied
+pub mod KnownBytes
+pub mod BufferParts
+pub mod FieldTexts
+pub mod Names

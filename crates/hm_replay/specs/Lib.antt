@@ -1,0 +1,11 @@
+pub mod Adapters
+pub mod Buffers
+pub mod Ends
+pub mod Faults
+pub mod Fills
+pub mod LineTexts
+pub mod LineWords
+pub mod Lines
+pub mod Ranges
+pub mod Reasons
+pub mod Schedules

@@ -1,0 +1,12 @@
+//! The program's top call: the bytes of a schedule in, the bytes of its run out.
+#![tactic(auto)]
+
+pub mod adapters;
+mod fields;
+pub mod lines;
+pub mod memory;
+pub mod outside;
+mod run_text;
+pub mod schedule;
+pub mod sure;
+pub mod words;
