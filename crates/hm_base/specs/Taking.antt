@@ -1,7 +1,7 @@
 -- How a page of another's log is taken in: it extends the staged list while there is one, else the log. A page and its
 -- answers are this project's own form of what a new primary or a predecessor sends (after van Renesse and Schneider, and
 -- Liskov and Cowling).
-use Rattle.std.specs.Prelude.{ℕ, ◌+◌, ◌-◌, max, Bool, ◌==◌, nat_lt, nat_le, if◌then◌else◌, List, ◌++◌, length, drop, map, filter, fold, count_by, Option, Some, None}
+use Rattle.std.specs.Prelude.{ℕ, ◌+◌, ◌-◌, max, ◌==◌, nat_lt, nat_le, if◌then◌else◌, List, ◌++◌, length, drop, filter, fold, count_by, Option, Some, None}
 use Rattle.hm_base.specs.declared.entry.Entry.{Entry}
 
 pub data Took : Type 0 where
