@@ -147,6 +147,15 @@ impl Ledger {
         page_of(&self.entries[first..last])
     }
 
+    /// The entries from one place up to another.
+    pub fn entries(&self, from: u32, to: u32) -> &[Entry]
+        requires rises { from ≤ to }
+        requires within { to ≤ length self.now.entries }
+        ensures { result.now ≡ drop from (take to self.now.entries) }
+    {
+        &self.entries[from as usize..to as usize]
+    }
+
     /// The last applied entry's stamp. None exactly where none is applied.
     pub fn last_applied(&self) -> Option<Stamp>
         ensures { result ≡ last_stamp (applied_entries self.now) }

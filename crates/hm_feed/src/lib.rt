@@ -1,0 +1,5 @@
+//! Pages of a replicated log: what a replica sends of its log, and what one that follows takes in.
+#![tactic(auto)]
+
+pub mod follower;
+pub mod sender;
