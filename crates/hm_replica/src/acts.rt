@@ -1,4 +1,5 @@
-ghost use Rattle.std.specs.Prelude.{◌≡◌, [], ◌∷◌};
+ghost use Rattle.std.specs.Prelude.{◌≡◌, ◌<◌, [], ◌∷◌, ◌++◌, length};
+ghost use Rattle.hm_packet.specs.Steps.{max_outs};
 ghost use Rattle.hm_replica.specs.Steps.{ignored_act, log_full_act, sends_act};
 
 use hm_base::why::Why;
@@ -54,6 +55,14 @@ pub fn one(packet: Packet) -> Outs
     ensures { result ≡ packet ∷ [] }
 {
     let mut outs = Outs::new();
-    let _ = outs.try_push(packet);
+    push(&mut outs, packet);
     outs
+}
+
+/// Puts a packet behind the others, where there is room for it.
+pub fn push(outs: &mut Outs, packet: Packet)
+    requires { length outs.old < max_outs }
+    ensures { outs.new ≡ outs.old ++ packet ∷ [] }
+{
+    let _ = outs.try_push(packet);
 }

@@ -1,7 +1,9 @@
-ghost use Rattle.std.specs.Prelude.{◌≡◌, ◌≤◌, length, map};
+ghost use Rattle.std.specs.Prelude.{◌≡◌, ◌≤◌, ◌+◌, ◌++◌, length, map};
+ghost use Rattle.hm_packet.specs.Steps.{max_outs};
 ghost use Rattle.hm_replica.specs.Steps.{with_log};
 ghost use Rattle.hm_rules.specs.ReplicaSteps as steps;
 
+use crate::acts::push;
 use crate::packets::{done_packet, reply_packet};
 use hm_base::entry::{Act, Entry};
 use hm_packet::outs::Outs;
@@ -25,26 +27,26 @@ pub fn answer_entry(me: u8, shim: &Shim, entry: &Entry) -> Packet
     }
 }
 
-/// The answers to a declared range of the log, to the last entries of it: a client whose answer isn't sent asks again.
-pub fn answers(me: u8, shim: &Shim, from: u32, to: u32) -> Outs
+/// Puts the answers to a declared range of the log behind the packets, to the last entries of it: a client whose answer isn't
+/// sent asks again.
+pub fn push_answers(outs: &mut Outs, me: u8, shim: &Shim, from: u32, to: u32)
     requires me { me ≤ 6 }
     requires rises { from ≤ to }
     requires within { to ≤ length shim.now.entries }
-    ensures { result ≡ steps.answers (with_log me shim.now) from to }
+    requires room { length outs.old + steps.max_answered ≤ max_outs }
+    ensures { outs.new ≡ outs.old ++ steps.answers (with_log me shim.now) from to }
 {
     let first = from.max(to.saturating_sub(MAX_ANSWERED));
-    answers_to(me, shim, shim.log().entries(first, to))
+    push_answers_to(outs, me, shim, shim.log().entries(first, to));
 }
 
-/// The answers to a few entries.
-fn answers_to(me: u8, shim: &Shim, entries: &[Entry]) -> Outs
+/// Puts the answers to some entries behind the packets.
+fn push_answers_to(outs: &mut Outs, me: u8, shim: &Shim, entries: &[Entry])
     requires me { me ≤ 6 }
-    requires few { length entries.now ≤ steps.max_answered }
-    ensures { result ≡ map (steps.answer_entry (with_log me shim.now)) entries.now }
+    requires room { length outs.old + length entries.now ≤ max_outs }
+    ensures { outs.new ≡ outs.old ++ map (steps.answer_entry (with_log me shim.now)) entries.now }
 {
-    let mut outs = Outs::new();
     for entry in entries {
-        let _ = outs.try_push(answer_entry(me, shim, entry));
+        push(outs, answer_entry(me, shim, entry));
     }
-    outs
 }

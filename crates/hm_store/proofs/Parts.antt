@@ -1,5 +1,5 @@
 -- Parts of a list, item by item.
-use Rattle.std.proofs.Common.{◌≡◌, ℕ, zero, suc, ◌+◌, ◌-◌, ◌<◌, ◌≤◌, List, [], ◌∷◌, ◌++◌, length, get_or, take, drop, Option, Some, None, sym, ap, ◌∙◌, arith}
+use Rattle.std.proofs.Common.{◌≡◌, ℕ, zero, suc, ◌+◌, ◌-◌, ◌<◌, ◌≤◌, List, [], ◌∷◌, ◌++◌, length, get_or, take, drop, Some, None, sym, ap, ◌∙◌, arith}
 use Rattle.std.specs.Prelude.{slice_get}
 use Rattle.std.proofs.lemmas.List.{take_more, drop_more, length-take-le, drop-append-le, drop-take}
 use Rattle.std.proofs.lemmas.Option.{slice_get_within, get_or_from_slice_get, none-some}
@@ -10,14 +10,14 @@ part_more {X} xs from i x le found =
     let here : i < length xs = slice_get_within xs i x found in
     let whole : length (take i xs) ≡ i = length-take-le i xs (omega arith) in
     ap (λ (l : List X). drop from l) (take_more xs i x here)
-        ∙ drop-append-le from (take i xs) (get_or xs i x ∷ []) (omega arith)
-        ∙ ap (λ (y : X). drop from (take i xs) ++ y ∷ []) (get_or_from_slice_get xs i x x found)
+    ∙ drop-append-le from (take i xs) (get_or xs i x ∷ []) (omega arith)
+    ∙ ap (λ (y : X). drop from (take i xs) ++ y ∷ []) (get_or_from_slice_get xs i x x found)
 
 -- what stands from a place on
 pub rest_at : {X : Type 0} (xs : List X) (i : ℕ) (x : X) → slice_get xs i ≡ Some x → drop i xs ≡ x ∷ drop (i + 1) xs
 rest_at {X} xs i x found =
     drop_more xs i x (slice_get_within xs i x found)
-        ∙ ap (λ (y : X). y ∷ drop (i + 1) xs) (get_or_from_slice_get xs i x x found)
+    ∙ ap (λ (y : X). y ∷ drop (i + 1) xs) (get_or_from_slice_get xs i x x found)
 
 -- a place with nothing is past the end
 pub past_end : {X : Type 0} (xs : List X) (i : ℕ) → slice_get xs i ≡ None → length xs ≤ i

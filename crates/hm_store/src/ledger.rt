@@ -63,6 +63,7 @@ impl Ledger {
     pub fn len(&self) -> u32
         ensures len { result ≡ length self.now.entries }
         ensures within { result ≤ self.now.cap }
+        ensures applied { self.now.applied ≤ result }
     {
         self.entries.len() as u32
     }

@@ -1,4 +1,4 @@
-use Rattle.std.proofs.Common.{◌≡◌, ◌≤◌, ◌++◌, take, drop}
+use Rattle.std.proofs.Common.{◌≡◌, ◌++◌, take, drop}
 use Rattle.hm_feed.proofs.follower.extend.Given as goal
 
 abbrev pub invariant-loop-i : goal.invariant-loop-i

@@ -1,4 +1,4 @@
-use Rattle.std.proofs.Common.{◌≡◌, true, false, Bool, Option, ℕ, Some, eqb, sym, ap, ◌∙◌}
+use Rattle.std.proofs.Common.{Option, ℕ, Some, eqb, sym, ap, ◌∙◌}
 use Rattle.std.specs.Option.{option_eq}
 use Rattle.hm_replica.proofs.Anys.{any_here, any_later}
 use Rattle.hm_replica.proofs.group.is_member.Goals as goal

@@ -9,5 +9,5 @@ returns c =
     let from = c.args.from in
     let to = c.args.to in
     ap (λ (l : List Entry). take (to - from) (drop from l)) c.deref.ensures.value
-        ∙ part_is c.self.inside.entries.items from to c.requires.rises
-        ∙ ap (λ (l : Log). drop from (take to l.entries)) c.self.view_is
+    ∙ part_is c.self.inside.entries.items from to c.requires.rises
+    ∙ ap (λ (l : Log). drop from (take to l.entries)) c.self.view_is
