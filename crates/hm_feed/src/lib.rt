@@ -2,4 +2,5 @@
 #![tactic(auto)]
 
 pub mod follower;
+mod quorum;
 pub mod sender;

@@ -1,6 +1,9 @@
 ghost use Rattle.std.specs.Prelude.{◌≡◌, ◌<◌, ◌≤◌, ◌↔◌, IsTrue, if◌then◌else◌};
+ghost use Rattle.hm_base.specs.Taking as taking;
 ghost use Rattle.hm_feed.specs.Sending as sending;
 
+use crate::quorum::held_by;
+use hm_base::members::Members;
 use hm_packet::body::Feed;
 use hm_store::ledger::Ledger;
 use std::marker::Model;
@@ -78,5 +81,12 @@ impl Sender {
         ensures { result ≡ sending.acked_by self.now to }
     {
         self.acked[to as usize]
+    }
+
+    /// The greatest length that at least `k` members other than `me` acknowledged, 0 where there is none.
+    pub fn held_by(&self, members: &Members, me: u8, k: u8) -> u32
+        ensures { result ≡ taking.held_by k (sending.others_acked self.now me members.now) }
+    {
+        held_by(self, members, me, k)
     }
 }
