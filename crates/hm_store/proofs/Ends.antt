@@ -1,11 +1,10 @@
 -- The last of some entries.
-use Rattle.std.proofs.Common.{◌≡◌, ℕ, ◌-◌, List, [], ◌∷◌, length, Option, Some, None, sym, ap, subst, ◌∙◌, arith, suc}
+use Rattle.std.proofs.Common.{◌≡◌, ℕ, ◌-◌, List, [], ◌∷◌, length, Some, sym, ap, subst, arith}
 use Rattle.std.specs.Prelude.{slice_get, fold}
 use Rattle.std.proofs.lemmas.Option.{same_Some, none-some}
 use Rattle.hm_base.specs.declared.stamp.Stamp.{Stamp}
 use Rattle.hm_base.specs.declared.entry.Entry.{Entry}
 use Rattle.hm_base.specs.Stamps.{least}
-use Rattle.hm_base.specs.Logs.{end_stamp}
 use Rattle.hm_store.specs.Log.{last_stamp}
 
 fold-last : (before : Stamp) (e : Entry) (es : List Entry) (entry : Entry) → slice_get (e ∷ es) (length es) ≡ Some entry → entry.stamp ≡ fold (λ (s : Stamp) (x : Entry). x.stamp) before (e ∷ es)

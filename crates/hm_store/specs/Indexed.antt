@@ -1,5 +1,5 @@
 -- What holds of a ledger's fields.
-use Rattle.std.specs.Prelude.{◌≡◌, ℕ, ◌+◌, ◌≤◌, List, length, take, nat_eq, Option, vec_capacity}
+use Rattle.std.specs.Prelude.{◌≡◌, ℕ, ◌+◌, ◌≤◌, length, take, nat_eq, vec_capacity}
 use Rattle.std.specs.HashMap.{get, hash_map_len, spare}
 use Rattle.hm_base.specs.Logs.{last_write}
 use Rattle.hm_store.specs.declared.ledger.Ledger.TheInside.{Inside}

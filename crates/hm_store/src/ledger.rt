@@ -63,6 +63,7 @@ impl Ledger {
     pub fn len(&self) -> u32
         ensures len { result ≡ length self.now.entries }
         ensures within { result ≤ self.now.cap }
+        ensures applied { self.now.applied ≤ result }
     {
         self.entries.len() as u32
     }
@@ -145,6 +146,15 @@ impl Ledger {
         let first = end.min(from as usize);
         let last = end.min(first + MAX_PAGE_LEN);
         page_of(&self.entries[first..last])
+    }
+
+    /// The entries from one place up to another.
+    pub fn entries(&self, from: u32, to: u32) -> &[Entry]
+        requires rises { from ≤ to }
+        requires within { to ≤ length self.now.entries }
+        ensures { result.now ≡ drop from (take to self.now.entries) }
+    {
+        &self.entries[from as usize..to as usize]
     }
 
     /// The last applied entry's stamp. None exactly where none is applied.

@@ -1,0 +1,69 @@
+ghost use Rattle.std.specs.Prelude.{◌≡◌, slice_get};
+ghost use Rattle.hm_base.specs.Taking as taking;
+ghost use Rattle.hm_feed.specs.Sending as sending;
+
+use crate::sender::Sender;
+use hm_base::members::Members;
+
+/// The greatest length that at least so many members other than this one acknowledged, 0 where there is none.
+pub(crate) fn held_by(sender: &Sender, members: &Members, me: u8, k: u8) -> u32
+    ensures { result ≡ taking.held_by k (sending.others_acked sender.now me members.now) }
+{
+    let mut greatest = 0u32;
+    for i in 0..members.len() {
+        let candidate = supported(sender, members, me, k, i);
+        greatest = greatest.max(candidate.unwrap_or(0));
+    }
+    greatest
+}
+
+/// What the member at a place acknowledged, where it is another and at least so many others reach that length.
+fn supported(sender: &Sender, members: &Members, me: u8, k: u8, i: u32) -> Option<u32>
+    ensures { result ≡ sending.supported k (sending.others_acked sender.now me members.now) (sending.other_acked sender.now me (slice_get members.now i)) }
+{
+    let len = other_acked(sender, members, me, i)?;
+    if count_reaching(sender, members, me, len) >= u32::from(k) {
+        Some(len)
+    } else {
+        None
+    }
+}
+
+/// How many members other than this one acknowledged a length.
+fn count_reaching(sender: &Sender, members: &Members, me: u8, len: u32) -> u32
+    ensures { result ≡ sending.count_reaching len (sending.others_acked sender.now me members.now) }
+{
+    let mut count = 0u32;
+    for i in 0..members.len() {
+        if reaches(other_acked(sender, members, me, i), len) {
+            count += 1;
+        }
+    }
+    count
+}
+
+/// Whether what was acknowledged reaches a length.
+fn reaches(acked: Option<u32>, len: u32) -> bool
+    ensures { result ≡ sending.reaches len acked }
+{
+    match acked {
+        Some(acked) => len <= acked,
+        None => false,
+    }
+}
+
+/// What the member at a place acknowledged, where it is another.
+fn other_acked(sender: &Sender, members: &Members, me: u8, i: u32) -> Option<u32>
+    ensures { result ≡ sending.other_acked sender.now me (slice_get members.now i) }
+{
+    match members.get(i) {
+        Some(member) => {
+            if member == me {
+                None
+            } else {
+                Some(sender.acked(member))
+            }
+        }
+        None => None,
+    }
+}

@@ -1,0 +1,92 @@
+ghost use Rattle.std.specs.Prelude.{◌≡◌, ◌<◌, ◌≤◌, ◌↔◌, IsTrue, if◌then◌else◌};
+ghost use Rattle.hm_base.specs.Taking as taking;
+ghost use Rattle.hm_feed.specs.Sending as sending;
+
+use crate::quorum::held_by;
+use hm_base::members::Members;
+use hm_packet::body::Feed;
+use hm_store::ledger::Ledger;
+use std::marker::Model;
+
+/// How many replicas there can be: their numbers are 0 to 6.
+pub const MAX_REPLICAS: usize = 7;
+
+/// What a replica that sends its log keeps of those that follow: the view, how long the log was with which the view began,
+/// and what each replica acknowledged in this view. Contracts see the record of its fields.
+#[derive(Drop)]
+pub struct Sender {
+    view: u32,
+    start: u32,
+    acked: [u32; MAX_REPLICAS],
+}
+
+impl Model for Sender {
+    ghost use Rattle.hm_feed.specs.Sending.{Sending};
+
+    ghost Value = { Sending };
+
+    ghost view = { λ s. record { view = s.view; start = s.start; acked = s.acked } };
+}
+
+impl Sender {
+    /// A view in which nothing is acknowledged yet.
+    pub fn open(view: u32, start: u32) -> Sender
+        ensures { result ≡ sending.opening view start }
+    {
+        Sender {
+            view,
+            start,
+            acked: [0; MAX_REPLICAS],
+        }
+    }
+
+    /// The view.
+    pub fn view(&self) -> u32
+        ensures { result ≡ self.now.view }
+    {
+        self.view
+    }
+
+    /// The page of the log for a replica: what it hasn't acknowledged yet, at most a page.
+    pub fn page(&self, log: &Ledger, commit: u32, to: u8) -> Feed
+        requires { to ≤ 6 }
+        ensures { result ≡ sending.page_to self.now log.now.entries commit to }
+    {
+        let first = self.acked(to);
+        Feed {
+            view: self.view,
+            start: self.start,
+            first,
+            commit,
+            entries: log.page(first),
+        }
+    }
+
+    /// Notes that a replica acknowledged a length. True and taken exactly where that is above what it had acknowledged.
+    pub fn note(&mut self, from: u8, len: u32) -> bool
+        requires { from ≤ 6 }
+        ensures rises { IsTrue result ↔ (sending.acked_by self.old from < len) }
+        ensures acked { self.new ≡ (if result then sending.with_acked self.old from len else self.old) }
+    {
+        if len <= self.acked(from) {
+            return false;
+        }
+        self.acked[from as usize] = len;
+        true
+    }
+
+    /// How long a list a replica acknowledged.
+    pub fn acked(&self, to: u8) -> u32
+        requires { to ≤ 6 }
+        ensures { result ≡ sending.acked_by self.now to }
+    {
+        self.acked[to as usize]
+    }
+
+    /// The greatest length that at least `k` members other than `me` acknowledged, 0 where there is none.
+    pub fn held_by(&self, members: &Members, me: u8, k: u8) -> u32
+        ensures { result ≡ taking.held_by k (sending.others_acked self.now me members.now) }
+    {
+        held_by(self, members, me, k)
+    }
+}

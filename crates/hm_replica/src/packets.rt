@@ -1,0 +1,57 @@
+ghost use Rattle.std.specs.Prelude.{◌≡◌, ◌≤◌};
+ghost use Rattle.hm_base.specs.declared.node.Node.TheVariants as node;
+ghost use Rattle.hm_packet.specs.declared.body.Body.TheVariants as body;
+ghost use Rattle.hm_packet.specs.Messages.{IsLawfulNode};
+ghost use Rattle.hm_rules.specs.ReplicaSteps as steps;
+
+use hm_base::entry::{Act, Entry};
+use hm_base::node::Node;
+use hm_packet::body::{Body, Done, Put, Reply};
+use hm_packet::packet::Packet;
+
+/// A packet from a replica.
+pub fn packet_from(me: u8, dst: Node, body: Body) -> Packet
+    requires me { me ≤ 6 }
+    requires dst { IsLawfulNode dst }
+    ensures { result ≡ record { src = node.Replica me; dst = dst; body = body } }
+{
+    Packet {
+        src: Node::Replica(me),
+        dst,
+        body,
+    }
+}
+
+/// The completion of a logged write, to the switch whose stamps are taken.
+pub fn done_packet(me: u8, accepted: u32, entry: &Entry) -> Packet
+    requires { me ≤ 6 }
+    ensures { result ≡ record { src = node.Replica me; dst = node.Switch accepted; body = body.Done (record { stamp = entry.now.stamp; client = entry.now.client; request = entry.now.request }) } }
+{
+    let done = Done {
+        stamp: entry.stamp,
+        client: entry.client,
+        request: entry.request,
+    };
+    packet_from(me, Node::Switch(accepted), Body::Done(done))
+}
+
+/// The reply to a client.
+pub fn reply_packet(me: u8, client: u32, reply: Reply) -> Packet
+    requires { me ≤ 6 }
+    ensures { result ≡ record { src = node.Replica me; dst = node.Client client; body = body.Reply reply } }
+{
+    packet_from(me, Node::Client(client), Body::Reply(reply))
+}
+
+/// The entry of a write that an entry node takes.
+pub fn entry_of(put: &Put) -> Entry
+    ensures { result ≡ steps.entry_of put.now }
+{
+    Entry {
+        stamp: put.stamp,
+        client: put.client,
+        request: put.request,
+        object: put.object,
+        act: Act::Put(put.value),
+    }
+}
