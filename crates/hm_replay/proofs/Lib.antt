@@ -3,3 +3,4 @@ pub mod KnownBytes
 pub mod BufferParts
 pub mod FieldTexts
 pub mod Names
+pub mod LineLemmas
