@@ -4,3 +4,4 @@ pub mod BufferParts
 pub mod FieldTexts
 pub mod Names
 pub mod LineLemmas
+pub mod NotNext

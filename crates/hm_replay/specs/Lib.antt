@@ -7,6 +7,7 @@ pub mod LineTexts
 pub mod LineWords
 pub mod Lines
 pub mod Nexts
+pub mod Outside
 pub mod Ranges
 pub mod Reasons
 pub mod Replays

@@ -1,5 +1,5 @@
 -- What a replay reads and what it writes.
-use Rattle.std.specs.Prelude.{◌≡◌, ◌≢◌, ℕ, ◌+◌, ◌<◌, ◌≤◌, List, [], ◌∷◌, ◌++◌, length, map, flat_map, Option, Some, None, IfSome, IsSomeAnd, ◌⊎◌}
+use Rattle.std.specs.Prelude.{◌≡◌, ℕ, ◌+◌, ◌≤◌, List, [], ◌∷◌, ◌++◌, length, map, flat_map, Option, Some, None, IfSome, IsSomeAnd, ◌⊎◌}
 use Rattle.std.specs.List.{AllByRecursion}
 use Rattle.std.specs.Io.KnownBytes.{Consumes, Appends, IsAtEnd}
 use Rattle.hm_base.specs.Lists.{IsPrefix}
@@ -13,18 +13,14 @@ use Rattle.hm_world.specs.Declares.{max_events}
 use Rattle.hm_world.specs.Setups.{event_of}
 use Rattle.hm_world.specs.declared.event.Event.{Event}
 use Rattle.hm_replay.specs.LineTexts.{IsLine, ended}
-use Rattle.hm_replay.specs.Schedules.{IsLawfulGroup, IsLawfulEvent, event_text, line_text}
+use Rattle.hm_replay.specs.Schedules.{IsLawfulGroup, IsLawfulEvent, event_text, line_text, default_setup}
+use Rattle.hm_replay.specs.Outside.{IsOutside}
 use Rattle.hm_replay.specs.Reasons.{reason_text}
-use Rattle.hm_replay.specs.declared.schedule.Line.{Line}
 use Rattle.hm_replay.specs.declared.schedule.Line.TheVariants as line
 use Rattle.hm_replay.specs.declared.schedule.LineReason.{LineReason}
 use Rattle.hm_replay.specs.declared.schedule.LineReason.TheVariants.{Word}
 
 -- ---- schedules
-
--- the setup of a group of which no line says more
-abbrev pub default_setup : GroupKind → ℕ → rule.Setup
-default_setup kind size = record { kind = kind; size = size; stages = 3; bits = 10; life = 4194304; cap = 16384 }
 
 pub record Schedule : Type 0 where
   pub kind : GroupKind
@@ -63,6 +59,11 @@ abbrev pub begun_lines : Option Schedule → ℕ
 begun_lines None = 0
 begun_lines (Some s) = length s.events + 1
 
+-- how many of them are events, unless none was read
+abbrev pub begun_events : Option Schedule → Option ℕ
+begun_events None = None
+begun_events (Some s) = Some (length s.events)
+
 -- the text of the events of these lines
 abbrev pub begun_run : Option Schedule → List ℕ
 begun_run None = []
@@ -72,27 +73,11 @@ begun_run (Some s) = events_text 1 (opens (setup_in s)) (events_in s) []
 abbrev pub end_text : Schedule → List ℕ
 end_text s = order_text (order (run (opens (setup_in s)) (events_in s) []).history)
 
--- the line that may come next
-abbrev pub IsNextLine : Option Schedule → Line → Type 0
-IsNextLine None (line.Group kind size) = IsLawfulGroup kind size
-IsNextLine None (line.Event e) = ⊥
-IsNextLine (Some s) (line.Group kind size) = ⊥
-IsNextLine (Some s) (line.Event e) = IsLawfulEvent e × (length s.events < max_events)
-
--- no such line comes first in the bytes
-abbrev pub HasNoNextLine : Option Schedule → List ℕ → Type 0
-HasNoNextLine begun bytes = (l : Line) → (more : List ℕ) → IsNextLine begun l → bytes ≢ ended (line_text l) ++ more
-
--- the bytes that follow are outside the grammar: they aren't the end of a schedule, and no line of one comes first
-abbrev pub IsOutside : Option Schedule → List ℕ → Type 0
-IsOutside None bytes = HasNoNextLine None bytes
-IsOutside (Some s) bytes = (bytes ≢ []) × HasNoNextLine (Some s) bytes
-
 -- a source's bytes are these lines, and then bytes that are outside the grammar
 pub record BreaksOff (begun : Option Schedule) (bytes : List ℕ) : Type 0 where
   pub rest : List ℕ
   pub parts : bytes ≡ begun_text begun ++ rest
-  pub outside : IsOutside begun rest
+  pub outside : IsOutside (begun_events begun) rest
 
 -- ---- how a replay ends
 

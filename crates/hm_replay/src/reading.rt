@@ -1,23 +1,74 @@
-ghost use Rattle.std.specs.Prelude.{◌≡◌, ◌++◌, [], ℕ, List, Some, IfOk};
+ghost use Rattle.std.specs.Prelude.{◌≡◌, ◌++◌, [], ℕ, List, Some, IfOk, MatchResult};
 ghost use Rattle.hm_replay.specs.Faults.{HasCause};
-ghost use Rattle.hm_replay.specs.LineTexts.{ended};
+ghost use Rattle.hm_replay.specs.LineTexts.{IsLine, ended};
+ghost use Rattle.hm_replay.specs.Lines.{Moves};
 ghost use Rattle.hm_replay.specs.Schedules.{IsLawful, line_text};
-ghost use Rattle.hm_replay.specs.Nexts.{ComesOrFails, IsSpelledBy};
+ghost use Rattle.hm_replay.specs.Nexts.{ComesOrFails, IsSpelledBy, SetupComes, EventComes};
 
 use crate::lines::{Found, LineReader};
 use crate::outside::{Failed, Source};
-use crate::schedule::{Line, LineReason, read_line};
+use crate::schedule::{Line, LineReason, default_setup, read_line};
+use hm_world::event::{Event, MAX_EVENTS, Setup};
 
 /// What comes next of a schedule: a line, the end of the input, or bytes that are no line.
 #[derive(Clone, Copy, Debug, PartialEq, Eq)]
-pub enum Next {
+enum Next {
     Line(Line),
     End,
     Bad(LineReason),
 }
 
+/// What comes next where an event may stand.
+#[derive(Clone, Copy, Debug, PartialEq, Eq)]
+pub enum NextEvent {
+    Event(Event),
+    End,
+    Bad(LineReason),
+}
+
+/// Reads the group's line. A refusal says why there is none.
+pub fn next_setup<S: Source>(
+    reader: &mut LineReader,
+    source: &mut S,
+) -> Result<Result<Setup, LineReason>, Failed>
+    ensures next { MatchResult result (λ next. SetupComes next reader.old.ahead reader.new.ahead (S.left source.old) (S.left source.new))
+        (λ _. Moves reader.old.ahead reader.new.ahead (S.left source.old) (S.left source.new) [] × IsLine reader.new.ahead) }
+    ensures cause { HasCause (S.faults source.old) (S.faults source.new) result }
+{
+    match next_line(reader, source) {
+        Ok(Next::Line(Line::Group { kind, size })) => Ok(Ok(default_setup(kind, size))),
+        Ok(Next::Line(Line::Event(_))) => Ok(Err(LineReason::Word)),
+        Ok(Next::End) => Ok(Err(LineReason::Word)),
+        Ok(Next::Bad(reason)) => Ok(Err(reason)),
+        Err(failed) => Err(failed),
+    }
+}
+
+/// Reads an event's line, behind those of so many events. Behind as many as a schedule may have, any byte is one too many.
+pub fn next_event<S: Source>(
+    reader: &mut LineReader,
+    source: &mut S,
+    events: u32,
+) -> Result<NextEvent, Failed>
+    ensures next { MatchResult result (λ next. EventComes events next reader.old.ahead reader.new.ahead (S.left source.old) (S.left source.new))
+        (λ _. Moves reader.old.ahead reader.new.ahead (S.left source.old) (S.left source.new) [] × IsLine reader.new.ahead) }
+    ensures cause { HasCause (S.faults source.old) (S.faults source.new) result }
+{
+    match next_line(reader, source) {
+        Ok(Next::Line(Line::Event(event))) => Ok(if events < MAX_EVENTS {
+            NextEvent::Event(event)
+        } else {
+            NextEvent::Bad(LineReason::Word)
+        }),
+        Ok(Next::Line(Line::Group { .. })) => Ok(NextEvent::Bad(LineReason::Word)),
+        Ok(Next::End) => Ok(NextEvent::End),
+        Ok(Next::Bad(reason)) => Ok(NextEvent::Bad(reason)),
+        Err(failed) => Err(failed),
+    }
+}
+
 /// Reads what comes next of a schedule.
-pub fn next_line<S: Source>(reader: &mut LineReader, source: &mut S) -> Result<Next, Failed>
+fn next_line<S: Source>(reader: &mut LineReader, source: &mut S) -> Result<Next, Failed>
     ensures next { ComesOrFails result reader.old.ahead reader.new.ahead (S.left source.old) (S.left source.new) }
     // A line that stands there comes.
     ensures only { (line : Line) → (bytes more : List ℕ) → IsLawful line → S.left source.old ≡ Some bytes
