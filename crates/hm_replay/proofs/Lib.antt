@@ -3,3 +3,5 @@ pub mod KnownBytes
 pub mod BufferParts
 pub mod FieldTexts
 pub mod Names
+pub mod LineLemmas
+pub mod NotNext

@@ -6,6 +6,10 @@ pub mod Fills
 pub mod LineTexts
 pub mod LineWords
 pub mod Lines
+pub mod Nexts
+pub mod Outside
 pub mod Ranges
 pub mod Reasons
+pub mod Replays
 pub mod Schedules
+pub mod Statuses

@@ -3,6 +3,7 @@ use Rattle.std.specs.Prelude.{◌≡◌, ℕ, ◌^◌, ◌<◌, List, [], ◌∷
 use Rattle.hm_base.specs.Spellings.{joined, value_text}
 use Rattle.hm_base.specs.declared.node.GroupKind.{GroupKind}
 use Rattle.hm_base.specs.declared.node.GroupKind.TheVariants as kind
+use Rattle.hm_rules.specs.Events as rule
 use Rattle.hm_replay.specs.Ranges.{IsSwitch, IsValue}
 use Rattle.hm_world.specs.declared.event.Event.{Event}
 use Rattle.hm_world.specs.declared.event.Event.TheVariants as event
@@ -56,3 +57,7 @@ IsLawfulGroup kind.Vr size = ⊥
 abbrev pub IsLawful : Line → Type 0
 IsLawful (line.Group kind size) = IsLawfulGroup kind size
 IsLawful (line.Event e) = IsLawfulEvent e
+
+-- the setup of a group of which no line says more
+abbrev pub default_setup : GroupKind → ℕ → rule.Setup
+default_setup kind size = record { kind = kind; size = size; stages = 3; bits = 10; life = 4194304; cap = 16384 }

@@ -1,10 +1,11 @@
 ghost use Rattle.std.specs.Prelude.{◌≡◌, ℕ, List, [], ◌∷◌, ◌++◌, Some, Ok, IfSome, IfOk, IfErr, codes, decimal};
 ghost use Rattle.hm_base.specs.Spellings.{spaced, value_text};
-ghost use Rattle.hm_replay.specs.Schedules.{IsWrite, IsRead, IsLawfulEvent, event_text, IsLawful, line_text};
+ghost use Rattle.hm_replay.specs.Schedules.{IsWrite, IsRead, IsLawfulEvent, event_text, IsLawful, line_text, default_setup};
+ghost use Rattle.hm_world.specs.Setups.{setup_of};
 
 use crate::fields::{next_number, next_value, split_word};
 use hm_base::node::GroupKind;
-use hm_world::event::Event;
+use hm_world::event::{Event, Setup};
 
 /// A line of a schedule.
 #[derive(Clone, Copy, Debug, PartialEq, Eq)]
@@ -125,4 +126,20 @@ fn read_read(fields: &[u8]) -> Option<Event>
         object,
         switch,
     })
+}
+
+/// The setup of a group of which no line says more.
+pub fn default_setup(kind: GroupKind, size: u8) -> Setup
+    ensures setup { setup_of result ≡ default_setup kind size }
+    ensures kind { result.kind ≡ kind }
+    ensures size { result.size ≡ size }
+{
+    Setup {
+        kind,
+        size,
+        stages: 3,
+        bits: 10,
+        life: 4_194_304,
+        cap: 16_384,
+    }
 }

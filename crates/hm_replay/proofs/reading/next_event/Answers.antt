@@ -1,0 +1,13 @@
+use Rattle.std.proofs.Common.{Some, ◌++◌}
+use Rattle.hm_replay.proofs.NotNext.{outside_bad}
+use Rattle.hm_replay.proofs.reading.next_event.Goals as goal
+
+pub returns-in-Ok-Bad-clause-next : goal.returns-in-Ok-Bad-clause-next
+returns-in-Ok-Bad-clause-next g c =
+    let came = rw c.in-Ok-Bad.field-0-is at c.in-Ok-Bad.ensures.next in
+    record {
+      reason_is = came.0;
+      cut = came.1.0;
+      moves = came.1.1;
+      outside = λ bytes is. outside_bad (Some c.args.events) (c.args.reader.now.ahead ++ bytes) c.in-Ok-Bad.reason _ c.in-Ok-Bad.field-0-is (λ l more lawful same. c.in-Ok-Bad.ensures.only l bytes more lawful is same) (λ none. c.in-Ok-Bad.ensures.end bytes is none);
+    }

@@ -1,0 +1,33 @@
+-- How a run ends, and with which status its program ends then.
+use Rattle.std.specs.Prelude.{◌≡◌, ℕ, List, [], ◌∷◌, Option, map, codes, string_bytes}
+use Rattle.std.specs.declared.string.String.{String}
+use Rattle.hm_replay.specs.Faults.{Rose}
+use Rattle.hm_replay.specs.Replays.{IsWholeRun, IsBadRun, IsCutRun, IsPartialRun}
+use Rattle.hm_replay.specs.declared.status.Status.{Status}
+use Rattle.hm_replay.specs.declared.status.Status.TheVariants as status
+
+abbrev pub code_of : Status → ℕ
+code_of status.Done = 0
+code_of status.BadWords = 2
+code_of (status.BadLine line reason) = 3
+code_of status.ReadFault = 4
+code_of status.WriteFault = 5
+code_of (status.TooLong line) = 6
+code_of status.NoMemory = 7
+
+-- the faults of source and sink before and after a run
+pub record Faults : Type 0 where
+  pub read_before : ℕ
+  pub read_after : ℕ
+  pub put_before : ℕ
+  pub put_after : ℕ
+
+-- how a replay ended
+abbrev pub Ends : Status → Option (List ℕ) → Option (List ℕ) → Option (List ℕ) → Option (List ℕ) → Faults → Type 0
+Ends status.Done left now held put f = IsWholeRun left now held put
+Ends status.BadWords left now held put f = ⊥
+Ends (status.BadLine line reason) left now held put f = IsBadRun left held put line reason
+Ends status.ReadFault left now held put f = Rose f.read_before f.read_after × IsCutRun left now held put
+Ends status.WriteFault left now held put f = Rose f.put_before f.put_after × IsPartialRun left now held put
+Ends (status.TooLong line) left now held put f = ⊥
+Ends status.NoMemory left now held put f = IsPartialRun left now held put
