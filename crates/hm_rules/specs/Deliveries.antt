@@ -58,8 +58,8 @@ to_client w k other = ignored_at w why.Foreign
 
 -- ---- switches
 
-abbrev pub with_switch : World → AbstractSwitch → World
-with_switch w s = record w { switches = slice_set w.switches (s.id - 1) s }
+abbrev pub with_switch : World → ℕ → AbstractSwitch → World
+with_switch w number s = record w { switches = slice_set w.switches (number - 1) s }
 
 abbrev pub turned : World → World → Turn → Happened
 turned old w (turn.Sent p) = taken old (posts w (p ∷ []))
@@ -68,12 +68,12 @@ turned old w (turn.Ignored reason) = ignored_at w reason
 turned old w turn.Full = record { world = w; outcome = outcome.Full }
 turned old w turn.Spent = record { world = w; outcome = outcome.Spent }
 
-abbrev pub at_switch : World → Turned → Happened
-at_switch w t = turned w (with_switch w t.switch) t.turn
+abbrev pub at_switch : World → ℕ → Turned → Happened
+at_switch w number t = turned w (with_switch w number t.switch) t.turn
 
-abbrev pub to_switch : Bool → World → Message → Option AbstractSwitch → Happened
-to_switch refuse w m None = ignored_at w why.Gone
-to_switch refuse w m (Some s) = at_switch w (switch_step refuse s m)
+abbrev pub to_switch : Bool → World → Message → ℕ → Option AbstractSwitch → Happened
+to_switch refuse w m number None = ignored_at w why.Gone
+to_switch refuse w m number (Some s) = at_switch w number (switch_step refuse s m)
 
 -- ---- replicas
 
@@ -88,22 +88,22 @@ replica_tick kind.Primary r = primary_tick r
 replica_tick kind.Vr r = vr_tick r
 
 -- the replica is changed, what it declares joins the declared list with a mark for each write, and what it sends the net
-abbrev pub stepped : World → Stepped → World
-stepped w s =
+abbrev pub stepped : World → ℕ → Stepped → World
+stepped w number s =
     let declared : List Entry = declared_after w.declared s.replica.log s.declared.to in
-    record w { replicas = slice_set w.replicas s.replica.me s.replica; net = w.net ++ s.outs; declared = declared; history = w.history ++ commits_since w.declared declared }
+    record w { replicas = slice_set w.replicas number s.replica; net = w.net ++ s.outs; declared = declared; history = w.history ++ commits_since w.declared declared }
 
-abbrev pub acted : World → Stepped → Did → Happened
-acted w s did.Done = taken w (stepped w s)
-acted w s (did.Ignored reason) = ignored_at w reason
-acted w s did.LogFull = record { world = w; outcome = outcome.LogFull }
+abbrev pub acted : World → ℕ → Stepped → Did → Happened
+acted w number s did.Done = taken w (stepped w number s)
+acted w number s (did.Ignored reason) = ignored_at w reason
+acted w number s did.LogFull = record { world = w; outcome = outcome.LogFull }
 
-abbrev pub at_replica : World → Stepped → Happened
-at_replica w s = acted w s s.did
+abbrev pub at_replica : World → ℕ → Stepped → Happened
+at_replica w number s = acted w number s s.did
 
 abbrev pub to_replica : World → Message → ℕ → Option Replica → Happened
 to_replica w m number None = ignored_at w why.Gone
-to_replica w m number (Some r) = if is_stopped w number then ignored_at w why.Gone else at_replica w (replica_step w.setup.kind r m)
+to_replica w m number (Some r) = if is_stopped w number then ignored_at w why.Gone else at_replica w number (replica_step w.setup.kind r m)
 
 -- ---- the service
 
@@ -119,7 +119,7 @@ to_service w n = noted w n n.did
 
 abbrev pub to_node : Bool → World → Message → Node → Happened
 to_node refuse w m (node.Client c) = to_client w (client_of w c) m.body
-to_node refuse w m (node.Switch s) = to_switch refuse w m (switch_at w s)
+to_node refuse w m (node.Switch s) = to_switch refuse w m s (switch_at w s)
 to_node refuse w m (node.Replica r) = to_replica w m r (slice_get w.replicas r)
 to_node refuse w m node.Config = to_service w (service_step w.service m)
 

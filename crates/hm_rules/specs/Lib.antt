@@ -16,3 +16,15 @@ pub mod Deliveries
 pub mod Happens
 pub mod Runs
 pub mod RunText
+pub use Rattle.hm_base.specs.Stamps
+pub use Rattle.hm_base.specs.Lists
+pub use Rattle.hm_base.specs.Logs
+pub use Rattle.hm_base.specs.Verdicts
+pub use Rattle.hm_base.specs.Slots
+pub use Rattle.hm_base.specs.Taking
+pub use Rattle.hm_packet.specs.Messages
+pub use Rattle.hm_packet.specs.Routing
+pub use Rattle.hm_packet.specs.Texts
+pub use Rattle.hm_order.specs.Marks
+pub use Rattle.hm_order.specs.Order
+pub use Rattle.hm_order.specs.Legal

@@ -1,6 +1,6 @@
 -- The run of a schedule, and which writes of it find the dirty table full. The run's only free choice is at which events a switch
 -- refuses a write.
-use Rattle.std.specs.Prelude.{ℕ, ◌+◌, Bool, true, false, ◌==◌, if◌then◌else◌, List, [], ◌∷◌, length, drop, Option, Some, None}
+use Rattle.std.specs.Prelude.{ℕ, ◌+◌, ◌-◌, Bool, true, false, if◌then◌else◌, List, [], ◌∷◌, length, drop, slice_get, Option, Some, None}
 use Rattle.hm_base.specs.Slots.{Slots, no_slots, is_full, put}
 use Rattle.hm_packet.specs.declared.body.Body.{Body}
 use Rattle.hm_packet.specs.declared.body.Body.TheVariants as body
@@ -11,7 +11,7 @@ use Rattle.hm_rules.specs.Senders.{number}
 use Rattle.hm_rules.specs.Numbers.{stands_in}
 use Rattle.hm_rules.specs.Switch.{AbstractSwitch}
 use Rattle.hm_rules.specs.Events.{Setup, Event}
-use Rattle.hm_rules.specs.World.{World, Happened, opens, sent_at}
+use Rattle.hm_rules.specs.World.{World, Happened, opens, sent_at, switch_at}
 use Rattle.hm_rules.specs.Happens.{happens}
 
 -- events are numbered from 1; the switch refuses at the numbers listed
@@ -48,14 +48,13 @@ delivered w Event.Next = sent_at w (w.cursor + 1)
 delivered w (Event.Raw spelled) = spelled
 delivered w other = None
 
-abbrev pub is_full_at : ℕ → List Slots → List AbstractSwitch → ℕ → Bool
-is_full_at object [] ss id = false
-is_full_at object (t ∷ ts) [] id = false
-is_full_at object (t ∷ ts) (s ∷ ss) id = if s.id == id then is_full t s.point object else is_full_at object ts ss id
+abbrev pub is_full_for : ℕ → Option Slots → Option AbstractSwitch → Bool
+is_full_for object (Some slots) (Some s) = is_full slots s.point object
+is_full_for object slots s = false
 
 abbrev pub finds_full_in : Slotted → ℕ → Body → Bool
-finds_full_in s switch (body.Write write) = is_full_at write.object s.slots s.world.switches switch
-finds_full_in s switch other = false
+finds_full_in s number (body.Write write) = is_full_for write.object (slice_get s.slots (number - 1)) (switch_at s.world number)
+finds_full_in s number other = false
 
 abbrev pub finds_full_with : Slotted → Option Message → Bool
 finds_full_with s None = false
