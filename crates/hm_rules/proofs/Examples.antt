@@ -10,7 +10,7 @@ use Rattle.hm_packet.specs.declared.body.Body.TheVariants.{Read}
 use Rattle.hm_packet.specs.declared.body.Vote.{Vote}
 use Rattle.hm_packet.specs.Messages.{Message}
 use Rattle.hm_rules.specs.Events.{Event, Setup}
-use Rattle.hm_rules.specs.ViewChange.{Ballot, ballots_from, best}
+use Rattle.hm_rules.specs.Votes.{Ballot, ballots_from, best}
 use Rattle.hm_rules.specs.Runs.{full_events}
 use Rattle.hm_rules.specs.RunText.{run_text, refused_events, summary}
 use Rattle.hm_rules.proofs.Rows.{group, lines}

@@ -6,6 +6,7 @@ pub mod Replica
 pub mod ReplicaSteps
 pub mod Chain
 pub mod PrimaryBackup
+pub mod Votes
 pub mod ViewChange
 pub mod Viewstamped
 pub mod Service

@@ -23,7 +23,8 @@ use Rattle.hm_packet.specs.Messages.{Message}
 use Rattle.hm_rules.specs.Replica.{Replica, Status, len, applied, acked_by, with_acked, others}
 use Rattle.hm_rules.specs.ReplicaSteps.{Stepped, ignored, sends, sends_first, and_sends, to_switch, read_reply, pages, ack_to, known_or_page, last_done, commits, learns, appends, takes_put, done_again, stamped_read, on_took, with_taken, on_refuse, receives}
 use Rattle.hm_rules.specs.PrimaryBackup.{page_if_behind}
-use Rattle.hm_rules.specs.ViewChange.{size, faults, primary_of, is_own_view, is_change, on_start, on_vote, on_pull, on_page, on_timeout, again}
+use Rattle.hm_rules.specs.Votes.{size, faults, primary_of, is_own_view, is_change}
+use Rattle.hm_rules.specs.ViewChange.{on_start, on_vote, on_pull, on_page, on_timeout, again}
 
 abbrev pub is_normal : Status → Bool
 is_normal Status.Normal = true
