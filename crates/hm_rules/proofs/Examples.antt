@@ -31,6 +31,10 @@ shown_full : refused_events (run_text one_slot table_is_full (4 ∷ [])) ≡ 4 �
 unfolding digits encode_with
 shown_full = refl
 
+-- with room for both objects no write finds the table full, though one object is dirty and the other isn't
+full_nowhere : full_events (record (group Chain 1) { stages = 1 }) table_is_full ≡ []
+full_nowhere = refl
+
 -- elsewhere a refusal is without effect: at the event before, and where the table has room
 refused_elsewhere : run_text one_slot table_is_full (3 ∷ 4 ∷ []) ≡ run_text one_slot table_is_full (4 ∷ [])
 unfolding digits encode_with
