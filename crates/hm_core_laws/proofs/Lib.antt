@@ -1,0 +1,4 @@
+pub mod Sources
+pub mod HoldsLater
+mod ListSteps
+mod Switching
