@@ -1,0 +1,4 @@
+//! What holds of a chain after every schedule.
+#![tactic(auto)]
+
+pub mod growth;

@@ -1,0 +1,4 @@
+pub mod Sourced
+pub mod Packets
+pub mod Core
+pub mod Owed

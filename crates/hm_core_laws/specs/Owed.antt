@@ -1,0 +1,38 @@
+-- What a protocol owes for each step of a live replica.
+use Rattle.std.specs.Prelude.{◌≡◌, ℕ, Bool, true, false, IsTrue, List, [], slice_get, Option, Some, All}
+use Rattle.hm_base.specs.declared.entry.Entry.{Entry}
+use Rattle.hm_base.specs.declared.node.Node.TheVariants as node
+use Rattle.hm_base.specs.Lists.{IsPrefix, IsIn}
+use Rattle.hm_base.specs.Taking.{held}
+use Rattle.hm_packet.specs.declared.acted.Did.TheVariants.{Done}
+use Rattle.hm_packet.specs.Messages.{Message}
+use Rattle.hm_rules.specs.Senders.{replica_sends}
+use Rattle.hm_rules.specs.Replica.{Replica, applied}
+use Rattle.hm_rules.specs.ReplicaSteps.{Stepped}
+use Rattle.hm_rules.specs.Viewstamped.{vr_timeout}
+use Rattle.hm_rules.specs.Service.{is_fixed}
+use Rattle.hm_rules.specs.Declared.{declared_after}
+use Rattle.hm_rules.specs.World.{World, is_stopped}
+use Rattle.hm_rules.specs.Deliveries.{replica_step, replica_tick, stepped}
+use Rattle.hm_core_laws.specs.Packets.{Holds}
+use Rattle.hm_core_laws.specs.Core.{ListHolds}
+
+-- the declared list after the step
+abbrev pub declared_by : World → Stepped → List Entry
+declared_by w s = declared_after w.declared s.replica.log s.declared.to
+
+-- Its lists are of requests that were made and are in order; it declares a longer list and applies what is declared; what it sends
+-- is true.
+pub record StepSound (w : World) (number : ℕ) (s : Stepped) : Type 0 where
+  pub log : ListHolds w.history w.net s.replica.log
+  pub staged : ListHolds w.history w.net (held [] s.replica.staged)
+  pub declared : IsPrefix w.declared (declared_by w s)
+  pub applied : IsPrefix (applied s.replica) (declared_by w s)
+  pub senders : All (λ (m : Message). IsTrue (replica_sends m.body)) s.outs
+  pub sent : All (Holds (stepped w number s).history (stepped w number s).declared (stepped w number s).net) s.outs
+
+-- every step that a live replica of this world may take
+pub record StepsSound (w : World) : Type 0 where
+  pub arrival : (m : Message) (number : ℕ) (r : Replica) → IsIn m w.net → m.dst ≡ node.Replica number → slice_get w.replicas number ≡ Some r → is_stopped w number ≡ false → (replica_step w.setup.kind r m).did ≡ Done → StepSound w number (replica_step w.setup.kind r m)
+  pub tick : (number : ℕ) (r : Replica) → slice_get w.replicas number ≡ Some r → is_stopped w number ≡ false → (replica_tick w.setup.kind r).did ≡ Done → StepSound w number (replica_tick w.setup.kind r)
+  pub timeout : (number : ℕ) (r : Replica) → slice_get w.replicas number ≡ Some r → is_stopped w number ≡ false → is_fixed w.setup.kind ≡ true → (vr_timeout r).did ≡ Done → StepSound w number (vr_timeout r)
