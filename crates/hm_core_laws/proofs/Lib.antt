@@ -5,3 +5,7 @@ mod Switching
 mod Clients
 pub mod CoreGrows
 mod SameMessages
+pub mod CoreEvents
+pub mod CoreOpens
+pub mod Changes
+pub mod StepParts

@@ -1,4 +1,5 @@
 pub mod Sourced
 pub mod Packets
 pub mod Core
+pub mod Changes
 pub mod Owed

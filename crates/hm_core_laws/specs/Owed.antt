@@ -16,6 +16,7 @@ use Rattle.hm_rules.specs.World.{World, is_stopped}
 use Rattle.hm_rules.specs.Deliveries.{replica_step, replica_tick, stepped}
 use Rattle.hm_core_laws.specs.Packets.{Holds}
 use Rattle.hm_core_laws.specs.Core.{ListHolds}
+use Rattle.hm_core_laws.specs.Changes.{IsStep}
 
 -- the declared list after the step
 abbrev pub declared_by : World → Stepped → List Entry
@@ -32,7 +33,5 @@ pub record StepSound (w : World) (number : ℕ) (s : Stepped) : Type 0 where
   pub sent : All (Holds (stepped w number s).history (stepped w number s).declared (stepped w number s).net) s.outs
 
 -- every step that a live replica of this world may take
-pub record StepsSound (w : World) : Type 0 where
-  pub arrival : (m : Message) (number : ℕ) (r : Replica) → IsIn m w.net → m.dst ≡ node.Replica number → slice_get w.replicas number ≡ Some r → is_stopped w number ≡ false → (replica_step w.setup.kind r m).did ≡ Done → StepSound w number (replica_step w.setup.kind r m)
-  pub tick : (number : ℕ) (r : Replica) → slice_get w.replicas number ≡ Some r → is_stopped w number ≡ false → (replica_tick w.setup.kind r).did ≡ Done → StepSound w number (replica_tick w.setup.kind r)
-  pub timeout : (number : ℕ) (r : Replica) → slice_get w.replicas number ≡ Some r → is_stopped w number ≡ false → is_fixed w.setup.kind ≡ true → (vr_timeout r).did ≡ Done → StepSound w number (vr_timeout r)
+abbrev pub StepsSound : World → Type 0
+StepsSound w = (number : ℕ) (s : Stepped) → IsStep w number s → StepSound w number s

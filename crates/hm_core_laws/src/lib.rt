@@ -1,3 +1,6 @@
 //! What holds of every world whose replicas keep to what a protocol owes: of its packets, switches, clients and logs, of the
 //! declared list and of the history. No protocol is named here.
 #![tactic(auto)]
+
+pub mod events;
+pub mod steps;

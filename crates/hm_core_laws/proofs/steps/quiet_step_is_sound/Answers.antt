@@ -1,0 +1,5 @@
+use Rattle.hm_core_laws.proofs.StepParts.{quiet_sound}
+use Rattle.hm_core_laws.proofs.steps.quiet_step_is_sound.Goals as goal
+
+pub returns : goal.returns
+returns c = λ w number r outs core holds senders sent. quiet_sound w core number r outs holds senders sent

@@ -1,0 +1,31 @@
+ghost use Rattle.std.specs.Prelude.{◌≡◌, ℕ, ◌++◌, take, IsTrue, List, slice_get, Some, All};
+ghost use Rattle.hm_base.specs.declared.entry.Entry.{Entry};
+ghost use Rattle.hm_base.specs.Lists.{IsPrefix};
+ghost use Rattle.hm_packet.specs.Messages.{Message};
+ghost use Rattle.hm_order.specs.declared.mark.Mark.{Mark};
+ghost use Rattle.hm_due_law.specs.Agreed.{Agree};
+ghost use Rattle.hm_rules.specs.Senders.{replica_sends};
+ghost use Rattle.hm_rules.specs.Replica.{Replica};
+ghost use Rattle.hm_rules.specs.ReplicaSteps.{sends, declares};
+ghost use Rattle.hm_rules.specs.World.{World};
+ghost use Rattle.hm_core_laws.specs.Packets.{Holds};
+ghost use Rattle.hm_core_laws.specs.Core.{ReplicaHolds, Core};
+ghost use Rattle.hm_core_laws.specs.Owed.{StepSound};
+
+/// A step that leaves a replica's lists and declares nothing is as it is owed, where the packets that it sends are true.
+pub fn quiet_step_is_sound()
+    ensures { (w : World) (number : ℕ) (r : Replica) (outs : List Message)
+        → Core w
+        → ReplicaHolds w.history w.declared w.net r
+        → All (λ (m : Message). IsTrue (replica_sends m.body)) outs
+        → All (Holds w.history w.declared (w.net ++ outs)) outs
+        → StepSound w number (sends r outs) }
+{}
+
+/// The answers to a declared range of a log are true: completions of declared writes, and replies to declared reads.
+pub fn declared_answers_are_true()
+    ensures { (history : List Mark) (declared : List Entry) (net : List Message) (r : Replica) (from to : ℕ)
+        → Agree history declared
+        → IsPrefix (take to r.log) declared
+        → All (Holds history declared net) (declares r from to).outs }
+{}
