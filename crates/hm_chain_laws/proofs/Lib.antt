@@ -1,1 +1,3 @@
 pub mod LogGrowth
+pub mod AloneSteps
+pub mod AloneEvents

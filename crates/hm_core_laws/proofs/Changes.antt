@@ -1,14 +1,12 @@
 -- Each event is a change of one of three kinds.
-use Rattle.std.proofs.Common.{◌≡◌, ℕ, ◌+◌, ◌-◌, Bool, true, false, List, [], ◌∷◌, ◌++◌, length, Option, Some, None, refl, sym, ap, subst, ◌∙◌, inl, inr}
+use Rattle.std.proofs.Common.{◌≡◌, ℕ, ◌+◌, Bool, true, false, List, [], ◌∷◌, ◌++◌, length, Option, Some, None, refl, sym, ◌∙◌}
 use Rattle.std.specs.Prelude.{map, max, not, ◌&&◌, ◌||◌, ◌==◌, nat_lt, nat_le, if◌then◌else◌, IsTrue, slice_get, is_some, All}
 use Rattle.std.specs.List.{list_any}
 use Rattle.std.proofs.lemmas.Bool.{cond_both, not-false}
 use Rattle.std.proofs.lemmas.List.{append-nil}
 use Rattle.std.proofs.lemmas.List.Elements.{All-nil, All-cons, All-map}
-use Rattle.std.proofs.lemmas.Option.{none-some}
 use Rattle.hm_base.specs.declared.node.Node.{Node}
 use Rattle.hm_base.specs.declared.node.Node.TheVariants as node
-use Rattle.hm_base.specs.declared.operation.Answer.TheVariants.{Wrote}
 use Rattle.hm_base.specs.declared.why.Why.TheVariants as why
 use Rattle.hm_base.specs.Lists.{IsPrefix, IsIn}
 use Rattle.hm_base.proofs.ListLaws.{prefix_same, prefix_append, at_in}
@@ -23,22 +21,21 @@ use Rattle.hm_packet.specs.declared.outcome.Bar.TheVariants as bar
 use Rattle.hm_packet.specs.declared.turn.Turn.{Turn}
 use Rattle.hm_packet.specs.declared.turn.Turn.TheVariants as turn
 use Rattle.hm_packet.specs.Messages.{Message}
-use Rattle.hm_order.specs.declared.mark.Mark.TheVariants as mark
 use Rattle.hm_order.specs.declared.mark.Want.{Want}
 use Rattle.hm_order.specs.declared.mark.Want.TheVariants as want
 use Rattle.hm_rules.specs.Senders.{same_node, number, may_send}
 use Rattle.hm_rules.specs.Numbers.{stands_in}
 use Rattle.hm_rules.specs.Same.{same_message}
-use Rattle.hm_rules.specs.Switch.{AbstractSwitch, Turned, is_active, is_dirty, may_refuse, ignoring, sending, own_stamp, member_in_turn, on_read, on_write, answers_done, on_done, on_route, switch_takes, on_body, on_packet, switch_step}
+use Rattle.hm_rules.specs.Switch.{AbstractSwitch, Turned, is_active, is_dirty, may_refuse, ignoring, sending, own_stamp, member_in_turn, answers_done, on_done, switch_takes, on_body, on_packet, switch_step}
 use Rattle.hm_rules.specs.Replica.{Replica}
 use Rattle.hm_rules.specs.ReplicaSteps.{Stepped, last_number}
 use Rattle.hm_rules.specs.Viewstamped.{vr_timeout}
 use Rattle.hm_rules.specs.Service.{Service, Noted, is_fixed, is_member, is_last, removes, refuse_to, retires, notes_refused, is_member_node, on_refused, service_step, awaited, starts}
 use Rattle.hm_rules.specs.Events.{Event}
-use Rattle.hm_rules.specs.World.{Client, World, Happened, starts_switch, barred, ignored_at, taken, posts, switch_at, sent_at, is_stopped, live, client_of, with_client}
-use Rattle.hm_rules.specs.Deliveries.{fits, answered, on_reply, to_client, with_switch, turned, at_switch, to_switch, replica_step, replica_tick, stepped, acted, at_replica, to_replica, noted, to_service, to_node, deliver}
-use Rattle.hm_rules.specs.Happens.{asks, request_to, invoked, invokes, resends, at_live, stops, serviced, removal, started, start, raw, passed, next, drops, happens}
-use Rattle.hm_core_laws.specs.Changes.{Origin, IsStep, is_quiet, IsQuiet, IsRemoval, Change}
+use Rattle.hm_rules.specs.World.{Client, World, Happened, starts_switch, barred, ignored_at, taken, posts, switch_at, sent_at, is_stopped, live, client_of}
+use Rattle.hm_rules.specs.Deliveries.{fits, answered, on_reply, to_client, with_switch, turned, to_switch, replica_step, replica_tick, acted, at_replica, to_replica, noted, to_node, deliver}
+use Rattle.hm_rules.specs.Happens.{asks, request_to, invoked, invokes, resends, at_live, stops, serviced, removal, started, start, raw, next, drops, happens}
+use Rattle.hm_core_laws.specs.Changes.{Origin, is_quiet, Change}
 use Rattle.hm_core_laws.proofs.CoreEvents.{sent_in}
 use Rattle.hm_core_laws.proofs.SameMessages.{sent_before}
 

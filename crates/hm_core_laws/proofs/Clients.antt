@@ -1,5 +1,5 @@
 -- The clients of a world: the list of those that were seen, and what holds of each as the history grows.
-use Rattle.std.proofs.Common.{◌≡◌, ℕ, ◌+◌, ◌<◌, ◌≤◌, ◌⊎◌, Bool, List, [], ◌∷◌, ◌++◌, length, Option, Some, None, refl, sym, ap, subst, ◌∙◌, cond, arith, inl, inr}
+use Rattle.std.proofs.Common.{◌≡◌, ℕ, ◌+◌, ◌<◌, ◌≤◌, List, [], ◌∷◌, ◌++◌, length, Option, Some, None, refl, sym, ap, subst, ◌∙◌, cond, arith, inl, inr}
 use Rattle.std.specs.Prelude.{map, find, nat_eq, unwrap_or}
 use Rattle.std.proofs.lemmas.Bool.{cases_lt, cases_eq, cond_both, cond-true, cond-false, eqb-true, eq-eqb, ne_eqb}
 use Rattle.std.proofs.lemmas.Option.{none-some, same_Some}
@@ -21,7 +21,7 @@ use Rattle.hm_due_law.proofs.Later.{want_later}
 use Rattle.hm_rules.specs.Declared.{commit_of}
 use Rattle.hm_rules.specs.World.{Client, with_client}
 use Rattle.hm_core_laws.specs.Packets.{op, WasAsked}
-use Rattle.hm_core_laws.specs.Core.{Waits, ClientHolds}
+use Rattle.hm_core_laws.specs.Core.{ClientHolds}
 
 -- ---- the list
 

@@ -1,20 +1,19 @@
 -- Each event keeps the core facts, where the steps of replicas are as a protocol owes them.
-use Rattle.std.proofs.Common.{◌≡◌, ℕ, ◌+◌, ◌-◌, ◌<◌, ◌≤◌, Bool, true, false, List, [], ◌∷◌, ◌++◌, length, Option, Some, None, refl, sym, ap, subst, ◌∙◌, arith, inl, inr}
+use Rattle.std.proofs.Common.{◌≡◌, ℕ, ◌+◌, ◌-◌, ◌<◌, ◌≤◌, Bool, true, false, List, [], ◌∷◌, ◌++◌, length, Option, Some, None, refl, sym, ap, subst, ◌∙◌, inl, inr}
 use Rattle.std.specs.Prelude.{map, filter, not, ◌&&◌, ◌==◌, if◌then◌else◌, slice_get, is_some, All}
 use Rattle.std.specs.List.{list_any}
 use Rattle.std.proofs.lemmas.Bool.{cases_lt, cond_both, not-false, eqb-true}
 use Rattle.std.proofs.lemmas.List.{append-nil}
-use Rattle.std.proofs.lemmas.List.Elements.{All-nil, All-cons, All-append, All-push, All-map}
-use Rattle.std.proofs.lemmas.Option.{none-some, same_Some}
+use Rattle.std.proofs.lemmas.List.Elements.{All-nil, All-cons, All-push, All-map}
+use Rattle.std.proofs.lemmas.Option.{none-some}
 use Rattle.hm_base.specs.declared.stamp.Stamp.{Stamp}
 use Rattle.hm_base.specs.declared.entry.Entry.{Entry}
 use Rattle.hm_base.specs.declared.node.Node.{Node}
 use Rattle.hm_base.specs.declared.node.Node.TheVariants as node
 use Rattle.hm_base.specs.declared.operation.Answer.{Answer}
 use Rattle.hm_base.specs.declared.operation.OpId.{OpId}
-use Rattle.hm_base.specs.declared.why.Why.{Why}
 use Rattle.hm_base.specs.declared.why.Why.TheVariants as why
-use Rattle.hm_base.specs.Lists.{IsPrefix, IsIn}
+use Rattle.hm_base.specs.Lists.{IsIn}
 use Rattle.hm_base.proofs.ListLaws.{prefix_same, prefix_append, at_in, each_in}
 use Rattle.hm_packet.specs.declared.acted.Did.{Did}
 use Rattle.hm_packet.specs.declared.acted.Did.TheVariants as did
@@ -44,17 +43,16 @@ use Rattle.hm_rules.specs.ReplicaSteps.{Stepped, last_number}
 use Rattle.hm_rules.specs.Viewstamped.{vr_timeout}
 use Rattle.hm_rules.specs.Service.{Service, Noted, service_route, from_service, is_fixed, is_member, is_last, config_to, removes, refuse_to, retires, notes_refused, is_member_node, on_refused, service_step, awaited, starts}
 use Rattle.hm_rules.specs.Events.{Event}
-use Rattle.hm_rules.specs.World.{Client, World, Happened, barred, ignored_at, taken, posts, switch_at, sent_at, is_stopped, live, client_of, with_client}
-use Rattle.hm_rules.specs.Deliveries.{fits, answered, on_reply, to_client, with_switch, turned, at_switch, to_switch, replica_step, replica_tick, stepped, acted, at_replica, to_replica, noted, to_service, to_node, deliver}
+use Rattle.hm_rules.specs.World.{Client, World, Happened, barred, ignored_at, taken, switch_at, sent_at, is_stopped, live, client_of, with_client}
+use Rattle.hm_rules.specs.Deliveries.{fits, answered, on_reply, to_client, with_switch, turned, to_switch, replica_step, replica_tick, acted, at_replica, to_replica, noted, to_node, deliver}
 use Rattle.hm_rules.specs.Happens.{asks, request_to, invoked, invokes, resends, at_live, stops, serviced, removal, started, start, raw, passed, next, drops, happens}
-use Rattle.hm_core_laws.specs.Sourced.{numbered_by, puts}
+use Rattle.hm_core_laws.specs.Sourced.{puts}
 use Rattle.hm_core_laws.specs.Packets.{op, WasAsked, IsAnswer, BodyHolds, Holds}
-use Rattle.hm_core_laws.specs.Core.{SwitchHolds, ClientHolds, Core}
+use Rattle.hm_core_laws.specs.Core.{ClientHolds, Core}
 use Rattle.hm_core_laws.specs.Changes.{Origin, IsStep}
 use Rattle.hm_core_laws.specs.Owed.{StepSound, StepsSound}
 use Rattle.hm_core_laws.proofs.Sources.{IsUnnumbered, puts_append}
 use Rattle.hm_core_laws.proofs.HoldsLater.{all_hold_later}
-use Rattle.hm_core_laws.proofs.ListSteps.{switch_there}
 use Rattle.hm_core_laws.proofs.Switching.{TurnHolds, switch_turn}
 use Rattle.hm_core_laws.proofs.Clients.{clients_with, uninvoked, was_asked, asking_holds, other_asks, answered_holds, other_answered}
 use Rattle.hm_core_laws.proofs.CoreGrows.{core_posts, core_goes_on, core_marks, core_moved, core_switched, core_started, core_stepped}

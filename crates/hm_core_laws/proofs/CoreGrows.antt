@@ -1,7 +1,7 @@
 -- The core facts as a world grows in one of its parts.
-use Rattle.std.proofs.Common.{◌≡◌, ℕ, ◌+◌, ◌-◌, ◌<◌, ◌≤◌, ◌⊎◌, Bool, List, [], ◌∷◌, ◌++◌, length, take, drop, Option, Some, None, refl, sym, ap, subst, ◌∙◌, arith, inl, inr}
-use Rattle.std.specs.Prelude.{map, nat_lt, nat_eq, slice_get, slice_set, All}
-use Rattle.std.proofs.lemmas.Bool.{cases_lt, cases_eq, cond_both}
+use Rattle.std.proofs.Common.{◌≡◌, ℕ, ◌+◌, ◌-◌, ◌<◌, List, [], ◌∷◌, ◌++◌, length, take, drop, Some, None, sym, ap, subst, ◌∙◌, arith, inl, inr}
+use Rattle.std.specs.Prelude.{map, nat_lt, slice_get, slice_set, All}
+use Rattle.std.proofs.lemmas.Bool.{cases_eq, cond_both}
 use Rattle.std.proofs.lemmas.List.{append-nil, length-append}
 use Rattle.std.proofs.Math.ListN.{length-set}
 use Rattle.std.proofs.lemmas.List.Elements.{All-append, All-drop, All-take, All-weaker, All-nil}
@@ -28,7 +28,7 @@ use Rattle.hm_rules.specs.World.{Client, World, switch_at, client_of, starts_swi
 use Rattle.hm_rules.specs.Deliveries.{stepped}
 use Rattle.hm_core_laws.specs.Sourced.{puts, IsSourced}
 use Rattle.hm_core_laws.specs.Packets.{Holds}
-use Rattle.hm_core_laws.specs.Core.{SwitchHolds, ClientHolds, ListHolds, ReplicaHolds, Core}
+use Rattle.hm_core_laws.specs.Core.{SwitchHolds, ClientHolds, ReplicaHolds, Core}
 use Rattle.hm_core_laws.specs.Owed.{declared_by, StepSound}
 use Rattle.hm_core_laws.proofs.Sources.{IsUnnumbered, puts_rest, replicas_unnumbered, all_sourced_later}
 use Rattle.hm_core_laws.proofs.HoldsLater.{all_hold_later, list_later, replica_later, switch_later}

@@ -1,11 +1,9 @@
 -- The core facts before the first event.
-use Rattle.std.proofs.Common.{◌≡◌, ℕ, ◌+◌, ◌-◌, ◌<◌, List, [], ◌∷◌, length, Some, None, refl, sym, ap, subst, arith, inl, inr}
-use Rattle.std.specs.Prelude.{map, slice_get, All}
+use Rattle.std.proofs.Common.{◌≡◌, ℕ, ◌-◌, ◌<◌, [], ◌∷◌, Some, refl, subst, arith, inl, inr}
+use Rattle.std.specs.Prelude.{slice_get}
 use Rattle.std.proofs.lemmas.List.Elements.{All-nil}
 use Rattle.std.proofs.lemmas.Option.{none-some, same_Some}
-use Rattle.hm_base.specs.declared.entry.Entry.{Entry}
 use Rattle.hm_base.proofs.ListLaws.{prefix_nil}
-use Rattle.hm_packet.specs.Messages.{Message}
 use Rattle.hm_order.specs.Marks.{At}
 use Rattle.hm_order.proofs.Growth.{at_push_cases}
 use Rattle.hm_due_law.proofs.Agreeing.{agree_nil}
@@ -13,7 +11,7 @@ use Rattle.hm_due_law.proofs.Commits.{map_at}
 use Rattle.hm_due_law.proofs.Tidies.{tidy_nil}
 use Rattle.hm_rules.specs.Switch.{AbstractSwitch}
 use Rattle.hm_rules.specs.Replica.{Replica, opened}
-use Rattle.hm_rules.specs.Service.{Service, served, replicas_below}
+use Rattle.hm_rules.specs.Service.{served, replicas_below}
 use Rattle.hm_rules.specs.Events.{Setup}
 use Rattle.hm_rules.specs.World.{starts_switch, opened_replicas, opens}
 use Rattle.hm_core_laws.specs.Sourced.{IsSourced}

@@ -1,5 +1,5 @@
 -- What is true of a packet, a switch or a list stays true as history, declared list and net grow.
-use Rattle.std.proofs.Common.{◌≡◌, ℕ, ◌<◌, List, [], length, Some, subst, sym, arith}
+use Rattle.std.proofs.Common.{◌≡◌, ℕ, ◌<◌, List, length, subst, sym, arith}
 use Rattle.std.specs.Prelude.{map, All}
 use Rattle.std.proofs.lemmas.List.Elements.{All-weaker}
 use Rattle.hm_base.specs.declared.entry.Entry.{Entry}
@@ -17,8 +17,8 @@ use Rattle.hm_due_law.proofs.Later.{invoked_later, want_later, due_later, fresh_
 use Rattle.hm_rules.specs.Senders.{number}
 use Rattle.hm_rules.specs.Switch.{AbstractSwitch}
 use Rattle.hm_rules.specs.Replica.{Replica}
-use Rattle.hm_core_laws.specs.Sourced.{puts, IsSourced}
-use Rattle.hm_core_laws.specs.Packets.{op, IsCompletion, IsAnswer, WasAskedToWrite, BodyHolds, Holds}
+use Rattle.hm_core_laws.specs.Sourced.{puts}
+use Rattle.hm_core_laws.specs.Packets.{op, BodyHolds, Holds}
 use Rattle.hm_core_laws.specs.Core.{SwitchHolds, ListHolds, ReplicaHolds}
 use Rattle.hm_core_laws.proofs.Sources.{sourced_later, all_sourced_later}
 
@@ -32,7 +32,7 @@ module _ {h h' : List Mark} {k k' : List Entry} {net net' : List Message} (f : I
   body_later src dst (body.Done done) x = record { place = x.place; entry = x.entry; there = prefix_at x.place x.entry p x.there; write = x.write; stamp = x.stamp; operation = x.operation }
   body_later src dst (body.Reply reply) x = record {
     invoked = (let e : invoked_at h' (op (number dst) reply.request) ≡ invoked_at h (op (number dst) reply.request) = invoked_later (op (number dst) reply.request) f x.invoked in
-    let l : invoked_at h (op (number dst) reply.request) < length h = x.invoked in omega (arith, prefix-length f));
+        let l : invoked_at h (op (number dst) reply.request) < length h = x.invoked in omega (arith, prefix-length f));
     due = due_later f formed (op (number dst) reply.request) x.invoked (reply.version, reply.answer) x.due;
   }
   body_later src dst (body.Ask ask) x = record { object = x.object; value = x.value; asked = want_later (op ask.client ask.request) (want.Write x.object x.value) f x.asked }

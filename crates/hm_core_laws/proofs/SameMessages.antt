@@ -1,10 +1,9 @@
 -- Packets that are the same by their parts are equal.
-use Rattle.std.proofs.Common.{◌≡◌, ℕ, Bool, true, false, List, [], ◌∷◌, refl, ap, subst, ◌∙◌, inl, inr}
-use Rattle.std.specs.Prelude.{nat_eq, ◌&&◌, bytes_eq}
+use Rattle.std.proofs.Common.{◌≡◌, ℕ, true, List, [], ◌∷◌, refl, ap, subst, ◌∙◌, inl, inr}
+use Rattle.std.specs.Prelude.{bytes_eq}
 use Rattle.std.specs.List.{list_any}
 use Rattle.std.proofs.lemmas.Bool.{and_parts, or_cases, eqb-true, false≢true}
 use Rattle.std.proofs.lemmas.Slice.Eq.{bytes_eq-Decides}
-use Rattle.hm_base.specs.declared.stamp.Stamp.{Stamp}
 use Rattle.hm_base.specs.declared.entry.Entry.{Entry}
 use Rattle.hm_base.specs.declared.entry.Act.{Act}
 use Rattle.hm_base.specs.declared.entry.Act.TheVariants as act
@@ -13,12 +12,10 @@ use Rattle.hm_base.specs.declared.node.Node.TheVariants as node
 use Rattle.hm_base.specs.declared.operation.Answer.{Answer}
 use Rattle.hm_base.specs.declared.operation.Answer.TheVariants as answer
 use Rattle.hm_base.specs.Lists.{IsIn}
-use Rattle.hm_base.specs.Stamps.{same_stamp}
 use Rattle.hm_base.proofs.ListLaws.{in_front, in_behind}
 use Rattle.hm_base.proofs.StampLaws.{same_stamp_is}
 use Rattle.hm_packet.specs.declared.body.Body.{Body}
 use Rattle.hm_packet.specs.declared.body.Body.TheVariants as body
-use Rattle.hm_packet.specs.declared.body.Read.{Read}
 use Rattle.hm_packet.specs.Messages.{Message}
 use Rattle.hm_packet.specs.Routing.{Routing}
 use Rattle.hm_rules.specs.Senders.{same_node}

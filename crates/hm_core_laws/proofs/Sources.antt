@@ -1,18 +1,16 @@
 -- The writes that a switch numbered, as the net grows.
-use Rattle.std.proofs.Common.{◌≡◌, ℕ, zero, suc, ◌-◌, ◌<◌, Bool, true, false, List, [], ◌∷◌, ◌++◌, length, Some, refl, sym, ap, subst, ◌∙◌, append_assoc, arith}
+use Rattle.std.proofs.Common.{◌≡◌, ℕ, ◌-◌, List, [], ◌∷◌, ◌++◌, refl, sym, ap, ◌∙◌, append_assoc}
 use Rattle.std.specs.Prelude.{IsTrue, All}
-use Rattle.std.proofs.lemmas.Bool.{cond-true, cond-false, false≢true}
+use Rattle.std.proofs.lemmas.Bool.{false≢true}
 use Rattle.std.proofs.lemmas.List.{append-nil}
 use Rattle.std.proofs.lemmas.List.Elements.{All-weaker, All-head, All-tail}
 use Rattle.hm_base.specs.declared.entry.Entry.{Entry}
 use Rattle.hm_base.specs.Lists.{IsPrefix}
-use Rattle.hm_base.specs.Logs.{is_write}
-use Rattle.hm_base.proofs.ListLaws.{prefix_append, prefix_at}
+use Rattle.hm_base.proofs.ListLaws.{prefix_at}
 use Rattle.hm_packet.specs.declared.body.Body.{Body}
 use Rattle.hm_packet.specs.declared.body.Body.TheVariants as body
 use Rattle.hm_packet.specs.Messages.{Message}
 use Rattle.hm_order.specs.declared.mark.Mark.{Mark}
-use Rattle.hm_order.specs.Marks.{At}
 use Rattle.hm_due_law.proofs.Later.{was_invoked_later}
 use Rattle.hm_rules.specs.Senders.{replica_sends}
 use Rattle.hm_core_laws.specs.Sourced.{numbered_by, puts, IsNumbered, IsSourced}

@@ -1,16 +1,14 @@
 -- Parts of steps that the protocols share.
-use Rattle.std.proofs.Common.{◌≡◌, ℕ, ◌-◌, ◌<◌, Bool, true, false, List, [], ◌∷◌, ◌++◌, length, take, drop, get_or, Some, refl, sym, ap, arith}
-use Rattle.std.specs.Prelude.{max, nat_lt, IsTrue, slice_get, All}
+use Rattle.std.proofs.Common.{◌≡◌, ℕ, ◌-◌, ◌<◌, true, List, ◌++◌, length, take, drop, get_or, refl, ap, arith}
+use Rattle.std.specs.Prelude.{max, nat_lt, IsTrue, All}
 use Rattle.std.proofs.lemmas.Bool.{cond_both, ltb-true}
 use Rattle.std.proofs.lemmas.List.Elements.{All-drop, All-map}
 use Rattle.std.proofs.lemmas.Option.{slice_get-get_or}
 use Rattle.hm_base.specs.declared.entry.Entry.{Entry}
 use Rattle.hm_base.specs.declared.entry.Act.{Act}
 use Rattle.hm_base.specs.declared.entry.Act.TheVariants as act
-use Rattle.hm_base.specs.declared.node.Node.{Node}
-use Rattle.hm_base.specs.declared.node.Node.TheVariants as node
 use Rattle.hm_base.specs.Lists.{IsPrefix}
-use Rattle.hm_base.specs.Logs.{is_put, is_write, latest}
+use Rattle.hm_base.specs.Logs.{is_put, is_write}
 use Rattle.hm_base.proofs.ListLaws.{prefix_same, prefix_append, prefix_then, prefix_at, each_at}
 use Rattle.hm_packet.specs.Messages.{Message}
 use Rattle.hm_order.specs.declared.mark.Mark.{Mark}
@@ -20,12 +18,11 @@ use Rattle.hm_due_law.specs.Declared.{op_of, wanted, WasInvoked}
 use Rattle.hm_due_law.specs.Agreed.{Agree}
 use Rattle.hm_due_law.proofs.ReadAnswers.{look_due}
 use Rattle.hm_rules.specs.Senders.{replica_sends}
-use Rattle.hm_rules.specs.Replica.{Replica, applied}
-use Rattle.hm_rules.specs.ReplicaSteps.{Stepped, sends, max_answered, done_of, read_reply, answer_act, answer_entry, answers, declares}
+use Rattle.hm_rules.specs.Replica.{Replica}
+use Rattle.hm_rules.specs.ReplicaSteps.{sends, max_answered, answer_act, answer_entry, declares}
 use Rattle.hm_rules.specs.Declared.{declared_after, commits_since}
 use Rattle.hm_rules.specs.World.{World}
-use Rattle.hm_rules.specs.Deliveries.{stepped}
-use Rattle.hm_core_laws.specs.Packets.{op, IsCompletion, Holds}
+use Rattle.hm_core_laws.specs.Packets.{IsCompletion, Holds}
 use Rattle.hm_core_laws.specs.Core.{ReplicaHolds, Core}
 use Rattle.hm_core_laws.specs.Owed.{declared_by, StepSound}
 use Rattle.hm_core_laws.proofs.HoldsLater.{all_hold_later}

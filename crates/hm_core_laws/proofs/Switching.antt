@@ -1,8 +1,8 @@
 -- What holds of a switch after each packet, and of what it sends.
-use Rattle.std.proofs.Common.{◌≡◌, ℕ, zero, suc, ◌+◌, ◌-◌, ◌<◌, ◌≤◌, ◌⊎◌, max, Bool, true, false, List, [], ◌∷◌, ◌++◌, length, drop, Some, refl, sym, ap, subst, ◌∙◌, arith, inl, inr}
-use Rattle.std.specs.Prelude.{map, not, ◌&&◌, ◌||◌, ◌==◌, nat_lt, nat_le, nat_eq, if◌then◌else◌, IsTrue, All}
+use Rattle.std.proofs.Common.{◌≡◌, ℕ, ◌+◌, ◌-◌, ◌<◌, ◌≤◌, ◌⊎◌, max, Bool, true, false, List, [], ◌∷◌, ◌++◌, length, Some, sym, ap, subst, ◌∙◌, arith, inl, inr}
+use Rattle.std.specs.Prelude.{map, not, ◌&&◌, ◌||◌, ◌==◌, nat_lt, nat_le, nat_eq, if◌then◌else◌, All}
 use Rattle.std.proofs.lemmas.Bool.{cases_lt, cond_both, cond-true, cond-false, and_parts, or_parts, not-true, not-false, both_ways, ltb-true, ltb-false, eqb-true, eq-eqb, ne_eqb}
-use Rattle.std.proofs.lemmas.List.{append-nil, map-append, length-append, length-map}
+use Rattle.std.proofs.lemmas.List.{map-append, length-append, length-map}
 use Rattle.std.proofs.lemmas.List.Elements.{All-cons, All-nil}
 use Rattle.std.proofs.lemmas.Option.{same_Some}
 use Rattle.hm_base.specs.declared.stamp.Stamp.{Stamp}
@@ -11,10 +11,8 @@ use Rattle.hm_base.specs.declared.node.Node.{Node}
 use Rattle.hm_base.specs.declared.node.Node.TheVariants as node
 use Rattle.hm_base.specs.declared.operation.Answer.TheVariants.{Wrote}
 use Rattle.hm_base.specs.declared.operation.OpId.{OpId}
-use Rattle.hm_base.specs.declared.why.Why.{Why}
 use Rattle.hm_base.specs.declared.why.Why.TheVariants as why
-use Rattle.hm_base.specs.Logs.{is_write}
-use Rattle.hm_base.proofs.ListLaws.{prefix_same, prefix_append, each_at}
+use Rattle.hm_base.proofs.ListLaws.{prefix_same, each_at}
 use Rattle.hm_packet.specs.declared.body.Body.{Body}
 use Rattle.hm_packet.specs.declared.body.Body.TheVariants as body
 use Rattle.hm_packet.specs.declared.body.Read.{Read}
@@ -31,7 +29,7 @@ use Rattle.hm_order.specs.Marks.{At, invoked_at}
 use Rattle.hm_order.proofs.Growth.{at_last, at_push_cases, want_invoked}
 use Rattle.hm_due_law.specs.Tidy.{HasWrite}
 use Rattle.hm_due_law.specs.Declared.{op_of, wanted, WasInvoked}
-use Rattle.hm_due_law.specs.Answers.{IsDueNow, IsFresh, IsClean}
+use Rattle.hm_due_law.specs.Answers.{IsDueNow, IsClean}
 use Rattle.hm_due_law.specs.Agreed.{Agree}
 use Rattle.hm_due_law.proofs.Commits.{at_map}
 use Rattle.hm_due_law.proofs.Fresh.{clean_is_fresh}
@@ -40,7 +38,7 @@ use Rattle.hm_rules.specs.Senders.{same_node, number, may_send}
 use Rattle.hm_rules.specs.Switch.{AbstractSwitch, is_active, is_dirty, may_refuse, Turned, ignoring, sending, own_stamp, member_in_turn, on_read, on_write, answers_done, on_done, on_route, switch_takes, on_body, on_packet, switch_step}
 use Rattle.hm_rules.specs.ReplicaSteps.{entry_of}
 use Rattle.hm_core_laws.specs.Sourced.{numbered_by, puts, IsNumbered, IsSourced}
-use Rattle.hm_core_laws.specs.Packets.{op, WasAsked, IsCompletion, IsAnswer, BodyHolds, Holds}
+use Rattle.hm_core_laws.specs.Packets.{op, WasAsked, IsCompletion, BodyHolds, Holds}
 use Rattle.hm_core_laws.specs.Core.{SwitchHolds}
 use Rattle.hm_core_laws.proofs.Sources.{IsUnnumbered, unnumbered, puts_append, puts_rest}
 use Rattle.hm_core_laws.proofs.HoldsLater.{switch_later}
@@ -146,7 +144,7 @@ module _ (h : List Mark) (k : List Entry) (net : List Message) (agree : Agree h 
       numbered = λ w. record {
         above = omega arith;
         place = (let here : length s.numbered + 1 - 1 ≡ length (puts n net) = (let e : length (puts n net) ≡ length s.numbered = so_far in omega arith) in
-        subst (λ (m : ℕ). At (puts m (net ++ packet ∷ [])) (length s.numbered + 1 - 1) (entry_of put)) (sym x.id) (subst (λ (l : List Entry). At l (length s.numbered + 1 - 1) (entry_of put)) (sym more) (subst (λ (j : ℕ). At (puts n net ++ entry_of put ∷ []) j (entry_of put)) (sym here) (at_last (puts n net) (entry_of put)))));
+            subst (λ (m : ℕ). At (puts m (net ++ packet ∷ [])) (length s.numbered + 1 - 1) (entry_of put)) (sym x.id) (subst (λ (l : List Entry). At l (length s.numbered + 1 - 1) (entry_of put)) (sym more) (subst (λ (j : ℕ). At (puts n net ++ entry_of put ∷ []) j (entry_of put)) (sym here) (at_last (puts n net) (entry_of put)))));
       };
     }
 

@@ -11,7 +11,7 @@ use Rattle.hm_rules.specs.Replica.{Replica}
 use Rattle.hm_rules.specs.ReplicaSteps.{Stepped}
 use Rattle.hm_rules.specs.Viewstamped.{vr_timeout}
 use Rattle.hm_rules.specs.Service.{is_fixed, is_member, is_last, removes}
-use Rattle.hm_rules.specs.World.{World, is_stopped, posts}
+use Rattle.hm_rules.specs.World.{World, is_stopped}
 use Rattle.hm_rules.specs.Deliveries.{replica_step, replica_tick, stepped}
 use Rattle.hm_rules.specs.Happens.{serviced}
 

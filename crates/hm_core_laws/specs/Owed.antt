@@ -1,19 +1,15 @@
 -- What a protocol owes for each step of a live replica.
-use Rattle.std.specs.Prelude.{◌≡◌, ℕ, Bool, true, false, IsTrue, List, [], slice_get, Option, Some, All}
+use Rattle.std.specs.Prelude.{ℕ, IsTrue, List, [], All}
 use Rattle.hm_base.specs.declared.entry.Entry.{Entry}
-use Rattle.hm_base.specs.declared.node.Node.TheVariants as node
-use Rattle.hm_base.specs.Lists.{IsPrefix, IsIn}
+use Rattle.hm_base.specs.Lists.{IsPrefix}
 use Rattle.hm_base.specs.Taking.{held}
-use Rattle.hm_packet.specs.declared.acted.Did.TheVariants.{Done}
 use Rattle.hm_packet.specs.Messages.{Message}
 use Rattle.hm_rules.specs.Senders.{replica_sends}
-use Rattle.hm_rules.specs.Replica.{Replica, applied}
+use Rattle.hm_rules.specs.Replica.{applied}
 use Rattle.hm_rules.specs.ReplicaSteps.{Stepped}
-use Rattle.hm_rules.specs.Viewstamped.{vr_timeout}
-use Rattle.hm_rules.specs.Service.{is_fixed}
 use Rattle.hm_rules.specs.Declared.{declared_after}
-use Rattle.hm_rules.specs.World.{World, is_stopped}
-use Rattle.hm_rules.specs.Deliveries.{replica_step, replica_tick, stepped}
+use Rattle.hm_rules.specs.World.{World}
+use Rattle.hm_rules.specs.Deliveries.{stepped}
 use Rattle.hm_core_laws.specs.Packets.{Holds}
 use Rattle.hm_core_laws.specs.Core.{ListHolds}
 use Rattle.hm_core_laws.specs.Changes.{IsStep}
