@@ -3,3 +3,7 @@ pub mod Packets
 pub mod Core
 pub mod Changes
 pub mod Owed
+pub use Rattle.hm_due_law.specs.Tidy
+pub use Rattle.hm_due_law.specs.Declared
+pub use Rattle.hm_due_law.specs.Answers
+pub use Rattle.hm_due_law.specs.Agreed

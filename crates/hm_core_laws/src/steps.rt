@@ -24,7 +24,8 @@ pub fn quiet_step_is_sound()
 
 /// The answers to a declared range of a log are true: completions of declared writes, and replies to declared reads.
 pub fn declared_answers_are_true()
-    ensures { (history : List Mark) (declared : List Entry) (net : List Message) (r : Replica) (from to : ℕ)
+    ensures senders { (r : Replica) (from to : ℕ) → All (λ (m : Message). IsTrue (replica_sends m.body)) (declares r from to).outs }
+    ensures holds { (history : List Mark) (declared : List Entry) (net : List Message) (r : Replica) (from to : ℕ)
         → Agree history declared
         → IsPrefix (take to r.log) declared
         → All (Holds history declared net) (declares r from to).outs }
