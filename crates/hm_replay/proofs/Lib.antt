@@ -5,3 +5,4 @@ pub mod FieldTexts
 pub mod Names
 pub mod LineLemmas
 pub mod NotNext
+pub mod PacketLines

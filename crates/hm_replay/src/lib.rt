@@ -2,11 +2,13 @@
 #![tactic(auto)]
 
 pub mod adapters;
+mod events;
 mod fields;
 pub mod lines;
 pub mod memory;
 pub mod outside;
 mod reading;
+mod replay;
 mod run_text;
 pub mod schedule;
 pub mod status;
