@@ -6,3 +6,5 @@ pub mod Names
 pub mod LineLemmas
 pub mod NotNext
 pub mod PacketLines
+pub mod RunLaws
+pub mod Progress

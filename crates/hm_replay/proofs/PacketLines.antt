@@ -1,7 +1,7 @@
 -- The lines of packets, one after another.
-use Rattle.std.proofs.Common.{◌≡◌, ℕ, ◌+◌, ◌-◌, ◌<◌, ◌≤◌, Bool, false, List, [], ◌∷◌, ◌++◌, length, get_or, take, drop, Option, Some, None, inl, inr, sym, ap, subst, ◌∙◌, append_assoc, arith, cond, eqb}
+use Rattle.std.proofs.Common.{◌≡◌, ℕ, ◌+◌, ◌-◌, ◌<◌, ◌≤◌, Bool, false, List, [], ◌∷◌, ◌++◌, length, get_or, take, drop, Option, Some, None, inl, inr, sym, ap, ◌∙◌, append_assoc, arith, cond, eqb}
 use Rattle.std.specs.Prelude.{slice_get, codes, decimal}
-use Rattle.std.proofs.lemmas.List.{append-nil, take_more, get_or-drop, length-take, length-drop}
+use Rattle.std.proofs.lemmas.List.{take_more, get_or-drop, length-take, length-drop}
 use Rattle.std.proofs.lemmas.Option.{get_or_from_slice_get, slice_get_cases}
 use Rattle.std.proofs.lemmas.Bool.Decides.{eqb_tells}
 use Rattle.hm_packet.specs.Messages.{Message}

@@ -1,4 +1,4 @@
-ghost use Rattle.std.specs.Prelude.{◌≡◌, ◌<◌, ◌+◌, ◌++◌, ℕ, false, length, drop, flat_map, OnOk};
+ghost use Rattle.std.specs.Prelude.{◌≡◌, ◌<◌, ◌+◌, ◌++◌, false, drop, flat_map, OnOk};
 ghost use Rattle.hm_rules.specs.Happens.{happens};
 ghost use Rattle.hm_rules.specs.RunText.{event_text, mark_line, packet_lines};
 ghost use Rattle.hm_world.specs.Declares.{max_events};

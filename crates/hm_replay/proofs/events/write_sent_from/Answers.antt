@@ -1,5 +1,4 @@
-use Rattle.std.proofs.Common.{◌≤◌, ◌<◌, length, sym, ◌∙◌, ap, arith}
-use Rattle.std.proofs.Common.{List, ℕ}
+use Rattle.std.proofs.Common.{◌<◌, length, sym, ◌∙◌, arith}
 use Rattle.hm_replay.proofs.PacketLines.{lines_more, some_sent}
 use Rattle.hm_replay.proofs.events.write_sent_from.Goals as goal
 use Rattle.hm_replay.proofs.events.write_sent_from.Goals.{in-Some+in_ok-write_sent, in_default}
