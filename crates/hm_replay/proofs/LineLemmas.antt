@@ -1,5 +1,5 @@
 -- Lines in bytes, and lawful lines.
-use Rattle.std.proofs.Common.{◌≡◌, ◌≢◌, ℕ, suc, ◌+◌, ◌-◌, ◌*◌, ◌<◌, ◌≤◌, ◌^◌, List, [], ◌∷◌, ◌++◌, length, get_or, take, Option, Some, None, refl, sym, ap, subst, ◌∙◌, append_assoc, arith, lit<, lit≤}
+use Rattle.std.proofs.Common.{◌≡◌, ◌≢◌, ℕ, ◌+◌, ◌*◌, ◌<◌, ◌≤◌, ◌^◌, List, [], ◌∷◌, ◌++◌, length, get_or, take, Option, Some, None, refl, sym, ap, subst, ◌∙◌, append_assoc, arith, lit<, lit≤}
 use Rattle.std.specs.Prelude.{decimal, codes, All}
 use Rattle.std.specs.List.{AllByRecursion}
 use Rattle.std.specs.Io.KnownBytes.{Consumes, IsAtEnd}
@@ -14,7 +14,6 @@ use Rattle.hm_base.specs.declared.node.GroupKind.TheVariants as kind
 use Rattle.hm_world.specs.declared.event.Event.TheVariants as event
 use Rattle.hm_replay.specs.LineTexts.{IsLine, ended}
 use Rattle.hm_replay.specs.Lines.{Moves, IsOverlong, max_line_len}
-use Rattle.hm_replay.specs.Ranges.{IsSwitch}
 use Rattle.hm_replay.specs.Schedules.{IsLawful, line_words, line_text}
 use Rattle.hm_replay.specs.declared.schedule.Line.{Line}
 use Rattle.hm_replay.specs.declared.schedule.Line.TheVariants as line

@@ -1,5 +1,5 @@
 -- Bytes that are outside the grammar.
-use Rattle.std.proofs.Common.{◌≡◌, ℕ, List, [], ◌++◌, Option, Some, None, refl, sym, ◌∙◌}
+use Rattle.std.proofs.Common.{◌≡◌, ℕ, List, [], ◌++◌, Option, Some, None, sym, ◌∙◌}
 use Rattle.hm_replay.specs.LineTexts.{ended}
 use Rattle.hm_replay.specs.Schedules.{IsLawful, line_text}
 use Rattle.hm_replay.specs.Outside.{IsNextLine, IsOutside}

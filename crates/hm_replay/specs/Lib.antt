@@ -1,5 +1,6 @@
 pub mod Adapters
 pub mod Buffers
+pub mod Closings
 pub mod Ends
 pub mod Faults
 pub mod Fills

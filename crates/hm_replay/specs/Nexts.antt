@@ -1,6 +1,5 @@
 -- What comes next of a schedule.
 use Rattle.std.specs.Prelude.{◌≡◌, ℕ, ◌<◌, List, [], ◌++◌, Option, Some, None, Result, Ok, Err, MatchResult}
-use Rattle.hm_base.specs.declared.node.GroupKind.{GroupKind}
 use Rattle.hm_world.specs.Declares.{max_events}
 use Rattle.hm_world.specs.Setups.{setup_of}
 use Rattle.hm_world.specs.declared.event.Setup.{Setup}
@@ -9,7 +8,6 @@ use Rattle.hm_replay.specs.LineTexts.{IsLine, ended}
 use Rattle.hm_replay.specs.Lines.{Moves, IsFinished}
 use Rattle.hm_replay.specs.Outside.{IsOutside}
 use Rattle.hm_replay.specs.Schedules.{IsLawful, IsLawfulGroup, IsLawfulEvent, event_text, line_text, default_setup}
-use Rattle.hm_replay.specs.declared.schedule.Line.{Line}
 use Rattle.hm_replay.specs.declared.schedule.Line.TheVariants as line
 use Rattle.hm_replay.specs.declared.schedule.LineReason.{LineReason}
 use Rattle.hm_replay.specs.declared.schedule.LineReason.TheVariants.{Word}

@@ -1,5 +1,5 @@
 -- Which line may come next of a schedule, and what else may not.
-use Rattle.std.specs.Prelude.{◌≡◌, ◌≢◌, ℕ, ◌<◌, List, [], ◌++◌, Option, Some, None}
+use Rattle.std.specs.Prelude.{◌≢◌, ℕ, ◌<◌, List, [], ◌++◌, Option, Some, None}
 use Rattle.hm_world.specs.Declares.{max_events}
 use Rattle.hm_replay.specs.LineTexts.{ended}
 use Rattle.hm_replay.specs.Schedules.{IsLawfulGroup, IsLawfulEvent, line_text}

@@ -1,6 +1,5 @@
 -- How a run ends, and with which status its program ends then.
-use Rattle.std.specs.Prelude.{◌≡◌, ℕ, List, [], ◌∷◌, Option, map, codes, string_bytes}
-use Rattle.std.specs.declared.string.String.{String}
+use Rattle.std.specs.Prelude.{ℕ, List, Option}
 use Rattle.hm_replay.specs.Faults.{Rose}
 use Rattle.hm_replay.specs.Replays.{IsWholeRun, IsBadRun, IsCutRun, IsPartialRun}
 use Rattle.hm_replay.specs.declared.status.Status.{Status}

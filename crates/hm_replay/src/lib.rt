@@ -2,13 +2,15 @@
 #![tactic(auto)]
 
 pub mod adapters;
+mod events;
 mod fields;
 pub mod lines;
 pub mod memory;
 pub mod outside;
 mod reading;
+pub mod replay;
 mod run_text;
 pub mod schedule;
 pub mod status;
 pub mod sure;
-pub mod words;
+mod words;

@@ -1,5 +1,5 @@
 ghost use Rattle.std.specs.Prelude.{◌≡◌, [], ◌∷◌, ◌++◌, OnOk, flat_map, codes};
-ghost use Rattle.hm_rules.specs.RunText.{why_text, bar_text, outcome_word, outcome_line, mark_line, packet_lines, order_text, place_line, bad_text};
+ghost use Rattle.hm_rules.specs.RunText.{why_text, bar_text, outcome_line, mark_line, packet_lines, order_text, place_line, bad_text};
 ghost use Rattle.hm_replay.specs.Reasons.{reason_text};
 
 use crate::schedule::LineReason;

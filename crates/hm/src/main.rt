@@ -1,0 +1,44 @@
+//! `hm replay`: reads a schedule from standard input, and writes the text of its run to standard output.
+#![tactic(auto)]
+
+use hm_replay::adapters::{ReaderSource, WriterSink};
+use hm_replay::replay::run;
+use hm_replay::status::Status;
+use std::env;
+use std::io::{BufWriter, Error, ErrorKind, Write};
+use std::process::ExitCode;
+
+/// The status for words that can't be had: one of them isn't UTF-8, or memory was wanting.
+fn refusal(error: &Error) -> Status {
+    if error.kind() == ErrorKind::OutOfMemory {
+        Status::NoMemory
+    } else {
+        Status::BadWords
+    }
+}
+
+/// Runs the program, and answers how it ended.
+fn status(rt: &HostRuntime) -> Status {
+    let alloc = rt.alloc();
+    let words = match env::args(rt) {
+        Ok(words) => words,
+        Err(error) => return refusal(&error),
+    };
+    let Ok(words) = words.skip(1).collect::<Vec<String>>(alloc) else {
+        return Status::NoMemory;
+    };
+    let Ok(output) = BufWriter::new(alloc, rt.stdout()) else {
+        return Status::NoMemory;
+    };
+    let mut source = ReaderSource::new(rt.stdin());
+    let mut sink = WriterSink::new(output);
+    let status = run(alloc, &words, &mut source, &mut sink);
+    match sink.into_inner().flush() {
+        Ok(()) => status,
+        Err(_) => Status::WriteFault,
+    }
+}
+
+fn main(rt: HostRuntime) -> ExitCode {
+    ExitCode::from(status(&rt).code())
+}

@@ -1,0 +1,50 @@
+ghost use Rattle.std.specs.Prelude.{◌≡◌, ◌<◌, ◌+◌, ◌++◌, false, drop, flat_map, OnOk};
+ghost use Rattle.hm_rules.specs.Happens.{happens};
+ghost use Rattle.hm_rules.specs.RunText.{event_text, mark_line, packet_lines};
+ghost use Rattle.hm_world.specs.Declares.{max_events};
+ghost use Rattle.hm_world.specs.Setups.{event_of};
+
+use crate::run_text::{write_marks, write_outcome, write_sent};
+use hm_base::memory::NoMemory;
+use hm_order::mark::Mark;
+use hm_world::event::Event;
+use hm_world::world::World;
+
+/// Lets an event happen, and makes its text in place of what the buffer held.
+pub(crate) fn write_event(
+    world: &mut World,
+    event: &Event,
+    text: &mut Vec<u8>,
+) -> Result<(), NoMemory>
+    requires { world.old.events < max_events }
+    ensures text { OnOk result (text.new.items ≡ event_text (world.old.events + 1) world.old.world (happens world.old.world (event_of event.now) false)) }
+    ensures world { OnOk result (world.new.world ≡ (happens world.old.world (event_of event.now) false).world) }
+    ensures events { OnOk result (world.new.events ≡ world.old.events + 1) }
+{
+    let marked = world.history().marks().len();
+    let sent = world.sent_count();
+    let outcome = world.event(event)?;
+    text.clear();
+    write_outcome(world.events(), outcome, text)?;
+    write_marks_from(world.history().marks(), marked, text)?;
+    write_sent_from(world, sent, text)
+}
+
+/// Appends the lines of the marks from this place on, counted from 0.
+fn write_marks_from(marks: &[Mark], first: usize, text: &mut Vec<u8>) -> Result<(), NoMemory>
+    ensures { OnOk result (text.new.items ≡ text.old.items ++ flat_map mark_line (drop first marks.now)) }
+{
+    write_marks(&marks[first.min(marks.len())..], text)
+}
+
+/// Appends the lines of the packets sent after the first ones.
+fn write_sent_from(world: &World, before: u32, text: &mut Vec<u8>) -> Result<(), NoMemory>
+    ensures { OnOk result (text.new.items ≡ text.old.items ++ packet_lines (before + 1) (drop before world.now.world.net)) }
+{
+    for i in before..world.sent_count() {
+        if let Some(packet) = world.sent(i + 1) {
+            write_sent(i + 1, &packet, text)?;
+        }
+    }
+    Ok(())
+}

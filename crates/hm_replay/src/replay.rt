@@ -1,0 +1,129 @@
+ghost use Rattle.std.specs.Prelude.{◌≡◌, ◌≢◌, ◌⊎◌, ℕ, [], ◌∷◌, codes, map, string_bytes};
+ghost use Rattle.hm_order.specs.Order.{order};
+ghost use Rattle.hm_rules.specs.RunText.{order_text, bad_text};
+ghost use Rattle.hm_replay.specs.Reasons.{reason_text};
+ghost use Rattle.hm_replay.specs.Closings.{Closes};
+ghost use Rattle.hm_replay.specs.Statuses.{Ends};
+ghost use Rattle.hm_replay.specs.Faults.{Rose};
+ghost use Rattle.hm_replay.specs.Replays.{IsWholeRun, IsBadRun, IsCutRun, IsPartialRun};
+ghost use Rattle.hm_replay.specs.declared.schedule.LineReason.{LineReason};
+
+use crate::events::write_event;
+use crate::lines::LineReader;
+use crate::outside::{Sink, Source, put_all};
+use crate::reading::{NextEvent, next_event, next_setup};
+use crate::run_text::{write_bad, write_order};
+use crate::schedule::LineReason;
+use crate::status::Status;
+use crate::words::is_replay;
+use hm_world::world::World;
+use std::alloc::Global;
+
+/// Does what a program's words, without its name, say. `replay` reads a schedule from the source, runs it, and writes the text
+/// of its run to the sink, each event's text and the ending as one piece. No other words are a command, and then nothing is read
+/// or put.
+///
+/// The clauses on what was read and put hold where source and sink tell their bytes.
+pub fn run<S: Source, K: Sink>(
+    alloc: Global,
+    words: &[String],
+    source: &mut S,
+    sink: &mut K,
+) -> Status
+    // BadWords comes exactly where the words are no command.
+    ensures command { result ≢ Status.BadWords → map string_bytes words.now ≡ codes "replay" ∷ [] }
+    ensures no_command { map string_bytes words.now ≡ codes "replay" ∷ [] → result ≢ Status.BadWords }
+    ensures no_limit { (line : ℕ) → result ≢ Status.TooLong line }
+    ensures untouched { result ≡ Status.BadWords → (source.new ≡ source.old) × (sink.new ≡ sink.old) }
+
+    // A fault comes only where the device's count rose in this call.
+    ensures read_fault { result ≡ Status.ReadFault → Rose (S.faults source.old) (S.faults source.new) }
+    ensures write_fault { result ≡ Status.WriteFault → Rose (K.faults sink.old) (K.faults sink.new) }
+
+    // What was read, and what was put.
+    ensures done { result ≡ Status.Done → IsWholeRun (S.left source.old) (S.left source.new) (K.held sink.old) (K.held sink.new) }
+    ensures bad_line { (line : ℕ) → (reason : LineReason) → result ≡ Status.BadLine line reason
+        → IsBadRun (S.left source.old) (K.held sink.old) (K.held sink.new) line reason }
+    ensures cut { result ≡ Status.ReadFault → IsCutRun (S.left source.old) (S.left source.new) (K.held sink.old) (K.held sink.new) }
+    ensures partial { (result ≡ Status.WriteFault) ⊎ (result ≡ Status.NoMemory)
+        → IsPartialRun (S.left source.old) (S.left source.new) (K.held sink.old) (K.held sink.new) }
+{
+    if is_replay(words) {
+        replay(alloc, source, sink)
+    } else {
+        Status::BadWords
+    }
+}
+
+/// Reads a schedule to its end, and writes the text of its run.
+fn replay<S: Source, K: Sink>(alloc: Global, source: &mut S, sink: &mut K) -> Status
+    ensures { Ends result (S.left source.old) (S.left source.new) (K.held sink.old) (K.held sink.new)
+        (record { read_before = S.faults source.old; read_after = S.faults source.new; put_before = K.faults sink.old; put_after = K.faults sink.new }) }
+{
+    let Ok(mut reader) = LineReader::open(alloc) else {
+        return Status::NoMemory;
+    };
+    let mut text = Vec::new(alloc);
+    let setup = match next_setup(&mut reader, source) {
+        Ok(Ok(setup)) => setup,
+        Ok(Err(reason)) => return refuse(1, reason, &mut text, sink),
+        Err(_) => return Status::ReadFault,
+    };
+    let Ok(mut world) = World::open(alloc, &setup) else {
+        return Status::NoMemory;
+    };
+    'events: loop {
+        match next_event(&mut reader, source, world.events()) {
+            Ok(NextEvent::Event(event)) => {
+                match write_event(&mut world, &event, &mut text) {
+                    Ok(()) => {}
+                    Err(_) => return Status::NoMemory,
+                }
+                match put_all(sink, &text) {
+                    Ok(()) => {}
+                    Err(_) => return Status::WriteFault,
+                }
+            }
+            Ok(NextEvent::End) => return finish(alloc, &world, &mut text, sink),
+            Ok(NextEvent::Bad(reason)) => {
+                return refuse(world.events() + 2, reason, &mut text, sink);
+            }
+            Err(_) => return Status::ReadFault,
+        }
+    }
+}
+
+/// Writes the order of the operations, which ends the text of a whole run.
+fn finish<K: Sink>(alloc: Global, world: &World, text: &mut Vec<u8>, sink: &mut K) -> Status
+    ensures { Closes result Status.Done (order_text (order world.now.world.history)) (K.held sink.old) (K.held sink.new) (K.faults sink.old) (K.faults sink.new) }
+{
+    let Ok(ops) = world.history().order(alloc) else {
+        return Status::NoMemory;
+    };
+    text.clear();
+    match write_order(&ops, text) {
+        Ok(()) => put_closing(text, Status::Done, sink),
+        Err(_) => Status::NoMemory,
+    }
+}
+
+/// Writes the number of the line that is outside the grammar, counted from 1, which ends the text where the schedule breaks off.
+fn refuse<K: Sink>(line: u32, reason: LineReason, text: &mut Vec<u8>, sink: &mut K) -> Status
+    ensures { Closes result (Status.BadLine line reason) (bad_text line (reason_text reason)) (K.held sink.old) (K.held sink.new) (K.faults sink.old) (K.faults sink.new) }
+{
+    text.clear();
+    match write_bad(line, reason, text) {
+        Ok(()) => put_closing(text, Status::BadLine { line, reason }, sink),
+        Err(_) => Status::NoMemory,
+    }
+}
+
+/// Puts the end of the text. The status is this one where all of it was put.
+fn put_closing<K: Sink>(text: &[u8], whole: Status, sink: &mut K) -> Status
+    ensures { Closes result whole text.now (K.held sink.old) (K.held sink.new) (K.faults sink.old) (K.faults sink.new) }
+{
+    match put_all(sink, text) {
+        Ok(()) => whole,
+        Err(_) => Status::WriteFault,
+    }
+}
