@@ -1,1 +1,9 @@
 pub mod SwitchFields
+pub mod Declares
+pub mod Setups
+pub mod Clients
+pub mod WorldFields
+pub mod Begun
+pub use Rattle.hm_rules.specs.World
+pub use Rattle.hm_rules.specs.Happens
+pub use Rattle.hm_rules.specs.Events

@@ -1,6 +1,9 @@
 use hm_base::node::GroupKind;
 use hm_base::value::Value;
 
+/// How many events a world takes.
+pub const MAX_EVENTS: u32 = 16_384;
+
 /// How a world is set up: the group, the dirty table's stages and bits, how many packets a switch handles, and how many
 /// entries a log may have.
 #[derive(Clone, Copy, Debug, PartialEq, Eq)]

@@ -1,5 +1,9 @@
 //! The world: all nodes, the net between them, the clients and the history.
 #![tactic(auto)]
 
+mod client;
+mod declared;
 pub mod event;
+pub mod fault;
 mod node_switch;
+pub mod world;

@@ -1,0 +1,40 @@
+-- What a lawful setup is.
+use Rattle.std.proofs.Common.{◌≡◌, ℕ, ◌≤◌, Bool, true, false, Option, Some, None, refl, sym, ◌∙◌}
+use Rattle.std.specs.Prelude.{nat_eq, nat_le, not, ◌&&◌, if◌then◌else◌}
+use Rattle.std.proofs.lemmas.Bool.{cond_both, and_parts, eqb-true, leb-true, false≢true}
+use Rattle.std.proofs.lemmas.Option.{none-some}
+use Rattle.hm_base.specs.declared.node.GroupKind.{GroupKind}
+use Rattle.hm_base.specs.declared.node.GroupKind.TheVariants as kind
+use Rattle.hm_world.specs.declared.event.Setup.{Setup}
+use Rattle.hm_world.specs.declared.fault.WorldFault.{WorldFault}
+use Rattle.hm_world.specs.declared.fault.WorldFault.TheVariants as fault
+use Rattle.hm_world.specs.Setups.{is_chain, is_group, setup_fault}
+
+pub record IsLawful (s : Setup) : Type 0 where
+  pub kind : s.kind ≡ kind.Chain
+  pub size : s.size ≡ 1
+  pub cap : s.cap ≤ 16384
+
+chain_is : (k : GroupKind) → is_chain k ≡ true → k ≡ kind.Chain
+chain_is kind.Chain e = refl
+chain_is kind.Primary e = absurd (false≢true e)
+chain_is kind.Vr e = absurd (false≢true e)
+
+kept : (b : Bool) → not b ≡ false → b ≡ true
+kept true e = refl
+kept false e = absurd (false≢true (sym e))
+
+abbrev Lawful : Setup → Option WorldFault → Type 0
+Lawful s o = o ≡ None → IsLawful s
+
+pub lawful : (s : Setup) → setup_fault s ≡ None → IsLawful s
+lawful s =
+    cond_both (not (is_group s)) (Some fault.Group) _ (Lawful s) (λ t e. absurd (none-some fault.Group (sym e)))
+    (λ group. cond_both (not (nat_le 1 s.stages && nat_le s.stages 4)) (Some fault.Stages) _ (Lawful s) (λ t e. absurd (none-some fault.Stages (sym e)))
+    (λ stages. cond_both (not (nat_le s.bits 12)) (Some fault.Bits) _ (Lawful s) (λ t e. absurd (none-some fault.Bits (sym e)))
+    (λ bits. cond_both (not (nat_le 1 s.life && nat_le s.life 4194304)) (Some fault.Life) _ (Lawful s) (λ t e. absurd (none-some fault.Life (sym e)))
+    (λ life. cond_both (not (nat_le 1 s.cap && nat_le s.cap 16384)) (Some fault.Cap) None (Lawful s) (λ t e. absurd (none-some fault.Cap (sym e)))
+    (λ cap e.
+      let of_group = and_parts (is_chain s.kind) (nat_eq s.size 1) (kept _ group) in
+      let of_cap = and_parts (nat_le 1 s.cap) (nat_le s.cap 16384) (kept _ cap) in
+      record { kind = chain_is s.kind of_group.0; size = eqb-true s.size 1 of_group.1; cap = leb-true s.cap 16384 of_cap.1 })))))
