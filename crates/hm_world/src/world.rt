@@ -72,7 +72,7 @@ impl World {
     /// A world before its first event: switch 1 is started, and nothing was sent. The faults come exactly where that part of
     /// the setup is the first out of its range, and NoMemory where memory is wanting.
     pub fn open(alloc: Global, setup: &Setup) -> Result<World, WorldFault>
-        ensures world { IfOk result (λ w. w.world ≡ rule.opens (setup_of setup.now)) }
+        ensures opened { IfOk result (λ w. w.world ≡ rule.opens (setup_of setup.now)) }
         ensures events { IfOk result (λ w. w.events ≡ 0) }
         ensures lawful { OnOk result (setup_fault setup.now ≡ None) }
         ensures fault { IfErr result (λ f. (f ≡ WorldFault.NoMemory) ⊎ (setup_fault setup.now ≡ Some f)) }
