@@ -40,5 +40,5 @@ raised k all before (Some len) = elim (nat_le k (count_reaching len all)) as (λ
 pub greatest_more : (k : ℕ) (all lengths : List ℕ) (o : Option ℕ) → fold max 0 (filter (λ m. nat_le k (count_reaching m all)) (lengths ++ option_to_list o)) ≡ max (fold max 0 (filter (λ m. nat_le k (count_reaching m all)) lengths)) (unwrap_or (supported k all o) 0)
 greatest_more k all lengths o =
     ap (λ (l : List ℕ). fold max 0 l) (filter-append (λ m. nat_le k (count_reaching m all)) lengths (option_to_list o))
-        ∙ fold-append max 0 (filter (λ m. nat_le k (count_reaching m all)) lengths) (filter (λ m. nat_le k (count_reaching m all)) (option_to_list o))
-        ∙ raised k all (fold max 0 (filter (λ m. nat_le k (count_reaching m all)) lengths)) o
+    ∙ fold-append max 0 (filter (λ m. nat_le k (count_reaching m all)) lengths) (filter (λ m. nat_le k (count_reaching m all)) (option_to_list o))
+    ∙ raised k all (fold max 0 (filter (λ m. nat_le k (count_reaching m all)) lengths)) o
