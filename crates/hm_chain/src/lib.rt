@@ -3,3 +3,5 @@
 
 pub mod chain;
 mod neighbours;
+#[cfg(test)]
+mod tests;

@@ -1,8 +1,7 @@
 -- What the other members acknowledged, member by member.
-use Rattle.std.proofs.Common.{◌≡◌, ℕ, zero, suc, ◌+◌, max, Bool, true, false, not, ◌==◌, if◌then◌else◌, List, [], ◌∷◌, ◌++◌, take, map, filter, fold, count_by, Option, Some, None, refl, sym, ap, ◌∙◌, add-one, zero-add, arith}
+use Rattle.std.proofs.Common.{◌≡◌, ℕ, zero, suc, ◌+◌, max, Bool, true, false, not, ◌==◌, if◌then◌else◌, List, [], ◌∷◌, ◌++◌, take, map, filter, fold, Option, Some, None, refl, ap, ◌∙◌, add-one, zero-add, arith}
 use Rattle.std.specs.Prelude.{slice_get, nat_le, unwrap_or}
 use Rattle.std.specs.Option.{option_to_list}
-use Rattle.std.proofs.lemmas.List.{append-nil}
 use Rattle.std.proofs.lemmas.List.Elements.{filter-append}
 use Rattle.std.proofs.lemmas.List.Sums.{fold-append, sum_by-append}
 use Rattle.hm_feed.specs.Sending.{Sending, acked_by, others_acked, other_acked, reaches, count_reaching, supported}
@@ -40,5 +39,5 @@ raised k all before (Some len) = elim (nat_le k (count_reaching len all)) as (λ
 pub greatest_more : (k : ℕ) (all lengths : List ℕ) (o : Option ℕ) → fold max 0 (filter (λ m. nat_le k (count_reaching m all)) (lengths ++ option_to_list o)) ≡ max (fold max 0 (filter (λ m. nat_le k (count_reaching m all)) lengths)) (unwrap_or (supported k all o) 0)
 greatest_more k all lengths o =
     ap (λ (l : List ℕ). fold max 0 l) (filter-append (λ m. nat_le k (count_reaching m all)) lengths (option_to_list o))
-        ∙ fold-append max 0 (filter (λ m. nat_le k (count_reaching m all)) lengths) (filter (λ m. nat_le k (count_reaching m all)) (option_to_list o))
-        ∙ raised k all (fold max 0 (filter (λ m. nat_le k (count_reaching m all)) lengths)) o
+    ∙ fold-append max 0 (filter (λ m. nat_le k (count_reaching m all)) lengths) (filter (λ m. nat_le k (count_reaching m all)) (option_to_list o))
+    ∙ raised k all (fold max 0 (filter (λ m. nat_le k (count_reaching m all)) lengths)) o

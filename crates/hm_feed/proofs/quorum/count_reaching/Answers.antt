@@ -1,4 +1,4 @@
-use Rattle.std.proofs.Common.{◌≡◌, ℕ, ◌+◌, Bool, true, false, if◌then◌else◌, List, take, Option, sym, ap, ◌∙◌, add-zero, arith}
+use Rattle.std.proofs.Common.{ℕ, ◌+◌, Bool, if◌then◌else◌, List, take, Option, sym, ap, ◌∙◌, add-zero, arith}
 use Rattle.std.specs.Prelude.{slice_get}
 use Rattle.hm_feed.specs.Sending as sending
 use Rattle.hm_feed.specs.Sending.{Sending}

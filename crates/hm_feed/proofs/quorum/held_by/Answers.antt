@@ -1,4 +1,4 @@
-use Rattle.std.proofs.Common.{◌≡◌, ℕ, ◌+◌, max, List, take, fold, filter, Option, sym, ap, ◌∙◌}
+use Rattle.std.proofs.Common.{ℕ, max, List, take, fold, filter, Option, sym, ap, ◌∙◌}
 use Rattle.std.specs.Prelude.{slice_get, nat_le, unwrap_or}
 use Rattle.hm_feed.specs.Sending as sending
 use Rattle.hm_feed.specs.Sending.{Sending}
