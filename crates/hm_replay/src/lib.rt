@@ -13,4 +13,6 @@ mod run_text;
 pub mod schedule;
 pub mod status;
 pub mod sure;
+#[cfg(test)]
+mod tests;
 mod words;
