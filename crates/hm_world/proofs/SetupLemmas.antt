@@ -35,6 +35,6 @@ lawful s =
     (λ bits. cond_both (not (nat_le 1 s.life && nat_le s.life 4194304)) (Some fault.Life) _ (Lawful s) (λ t e. absurd (none-some fault.Life (sym e)))
     (λ life. cond_both (not (nat_le 1 s.cap && nat_le s.cap 16384)) (Some fault.Cap) None (Lawful s) (λ t e. absurd (none-some fault.Cap (sym e)))
     (λ cap e.
-      let of_group = and_parts (is_chain s.kind) (nat_eq s.size 1) (kept _ group) in
-      let of_cap = and_parts (nat_le 1 s.cap) (nat_le s.cap 16384) (kept _ cap) in
-      record { kind = chain_is s.kind of_group.0; size = eqb-true s.size 1 of_group.1; cap = leb-true s.cap 16384 of_cap.1 })))))
+    let of_group = and_parts (is_chain s.kind) (nat_eq s.size 1) (kept _ group) in
+    let of_cap = and_parts (nat_le 1 s.cap) (nat_le s.cap 16384) (kept _ cap) in
+    record { kind = chain_is s.kind of_group.0; size = eqb-true s.size 1 of_group.1; cap = leb-true s.cap 16384 of_cap.1 })))))

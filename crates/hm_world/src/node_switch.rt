@@ -124,7 +124,10 @@ impl Switch {
         ensures turn { result ≡ (rule.on_read self.old client read.now).turn }
     {
         if self.point > 0 && !self.is_dirty(read.object) {
-            let stamp = Stamp { switch: self.id, seq: self.point as u64 };
+            let stamp = Stamp {
+                switch: self.id,
+                seq: self.point as u64,
+            };
             let member = self.member_in_turn();
             self.stamped += 1;
             self.sent(
@@ -173,7 +176,10 @@ impl Switch {
         self.sent(
             Node::Replica(self.route.entry),
             Body::Put(Put {
-                stamp: Stamp { switch: self.id, seq },
+                stamp: Stamp {
+                    switch: self.id,
+                    seq,
+                },
                 client,
                 request: write.request,
                 object: write.object,
