@@ -4,7 +4,7 @@ use Rattle.hm_replay.specs.Lines.{Reading}
 use Rattle.hm_replay.specs.Nexts.{ComesEvent, ComesBadly}
 use Rattle.hm_replay.specs.Replays.{schedule_text}
 use Rattle.hm_replay.proofs.KnownBytes.{consumes_none, appends_none}
-use Rattle.hm_replay.proofs.Progress.{made, read_on, progress_more, rose_since, ends_badly, ends_whole, ends_cut, ends_empty, ends_event}
+use Rattle.hm_replay.proofs.Progress.{made, read_on, progress_start, progress_more, rose_since, ends_badly, ends_whole, ends_cut, ends_empty, ends_event}
 use Rattle.hm_replay.proofs.replay.replay.Goals as goal
 
 pub returns-in_default : goal.returns-in_default
@@ -68,3 +68,13 @@ returns-in-Err-next_event g c =
       rose_since _ _ _ c.events.invariant.read_later c.in-Err-next_event.ensures.cause.failed,
       ends_cut (Some (made p.setup p.events)) _ _ _ _ _ _ _ p.lawful p.read p.written failed.0 failed.1,
     )
+
+pub events-init : goal.events-init
+events-init g c =
+    let came = rw c.in-Ok-Ok.field-0-is at c.in-Ok-Ok.ensures.next in
+    let fresh : c.in-Ok.reader.ahead ≡ [] = ap (λ (r : Reading). r.ahead) c.in-Ok.ensures in
+    record {
+      run = progress_start c.in-Ok-Ok.setup c.in-Ok-open.world _ _ _ _ _ fresh came c.in-Ok-open.ensures.opened c.in-Ok-open.ensures.events;
+      read_later = c.next_setup.ensures.cause.later;
+      put_later = omega arith;
+    }
