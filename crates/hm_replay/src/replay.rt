@@ -72,7 +72,7 @@ fn replay<S: Source, K: Sink>(alloc: Global, source: &mut S, sink: &mut K) -> St
     let Ok(mut world) = World::open(alloc, &setup) else {
         return Status::NoMemory;
     };
-    'events: loop {
+    loop {
         match next_event(&mut reader, source, world.events()) {
             Ok(NextEvent::Event(event)) => {
                 match write_event(&mut world, &event, &mut text) {
