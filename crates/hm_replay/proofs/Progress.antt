@@ -6,7 +6,12 @@ use Rattle.std.proofs.lemmas.List.{append-nil, length-append, length-map, map-ap
 use Rattle.std.proofs.lemmas.Grind.{flat_map-append}
 use Rattle.std.specs.Io.KnownBytes.{Consumes, Appends}
 use Rattle.hm_base.specs.Lists.{IsPrefix}
+use Rattle.hm_base.specs.declared.node.GroupKind.{GroupKind}
+use Rattle.hm_base.specs.declared.node.GroupKind.TheVariants as kind
 use Rattle.hm_order.specs.Order.{order}
+use Rattle.hm_order.specs.Legal.{IsLegal}
+use Rattle.hm_order.proofs.Explained.{order_explains}
+use Rattle.hm_chain_laws.proofs.AloneEvents.{sound_run}
 use Rattle.hm_rules.specs.Events as rule
 use Rattle.hm_rules.specs.World.{World, opens}
 use Rattle.hm_rules.specs.Happens.{happens}
@@ -19,12 +24,12 @@ use Rattle.hm_world.specs.declared.event.Setup.{Setup}
 use Rattle.hm_world.specs.declared.event.Event.{Event}
 use Rattle.hm_replay.specs.LineTexts.{IsLine, ended}
 use Rattle.hm_replay.specs.Lines.{Moves, IsFinished}
-use Rattle.hm_replay.specs.Schedules.{IsLawfulEvent, line_text, default_setup}
+use Rattle.hm_replay.specs.Schedules.{IsLawfulGroup, IsLawfulEvent, line_text, default_setup}
 use Rattle.hm_replay.specs.Reasons.{reason_text}
 use Rattle.hm_replay.specs.Faults.{Rose}
 use Rattle.hm_replay.specs.Outside.{IsOutside}
 use Rattle.hm_replay.specs.Nexts.{ComesGroup, ComesEvent, ComesBadly}
-use Rattle.hm_replay.specs.Replays.{Schedule, IsSchedule, setup_in, events_in, event_line, schedule_text, IsBegun, begun_text, begun_lines, begun_events, begun_run, end_text, BreaksOff, IsCutRun, IsPartialRun, IsClosing}
+use Rattle.hm_replay.specs.Replays.{Schedule, IsSchedule, setup_in, events_in, history_in, event_line, schedule_text, IsBegun, begun_text, begun_lines, begun_events, begun_run, end_text, BreaksOff, IsCutRun, IsPartialRun, IsClosing}
 use Rattle.hm_replay.specs.Closings.{Closes}
 use Rattle.hm_replay.specs.Statuses.{Faults, Ends}
 use Rattle.hm_replay.specs.declared.schedule.Line.TheVariants as line
@@ -197,6 +202,19 @@ ends_badly result begun old new left now later held mid put f middle number reas
     (inr (inr (record { breaks = breaks; closing_is = closing_is }))) written sooner
     (λ whole. record { begun = begun; lawful = lawful; number_is = number_is; reason_is = came.reason_is; breaks = breaks; written = whole }) closed
 
+-- a schedule's group is a chain of one
+group_is : (k : GroupKind) (size : ℕ) → IsLawfulGroup k size → (k ≡ kind.Chain) × (size ≡ 1)
+group_is kind.Chain size h = (refl, h)
+group_is kind.Primary size h = absurd h
+group_is kind.Vr size h = absurd h
+
+-- the order of a schedule's run is one that a single object store could have given
+run_is_legal : (s : Schedule) → IsLawfulGroup s.kind s.size → IsLegal (history_in s) (order (history_in s))
+run_is_legal s h =
+    let group = group_is s.kind s.size h in
+    let sound = sound_run (setup_in s) (events_in s) [] group.0 group.1 in
+    order_explains (history_in s) sound.core.agree.formed sound.core.agree.due
+
 -- where the input ends behind a line
 pub ends_whole : (result : Status) (w : Held) (old new : List ℕ) (left now later held mid put : Option (List ℕ)) (f : Faults) (middle : ℕ)
     → Progress w old left now held mid → f.put_before ≤ middle → Moves old new now later [] → IsFinished new later
@@ -209,7 +227,7 @@ ends_whole result w old new left now later held mid put f middle p sooner moves 
     let same : run_texts.order_text (order w.world.history) ≡ end_text s = ap (λ (x : World). run_texts.order_text (order x.history)) p.world_is in
     ends_closed status.Done result (Some s) new (run_texts.order_text (order w.world.history)) left later held mid put f middle p.lawful read
     (inr (inl (record { none = end.none; end = end.end; closing_is = same }))) p.written sooner
-    (λ written. record { schedule = s; lawful = p.lawful; read = whole; end = end.end; written = subst (λ (l : List ℕ). Appends held put (begun_run (Some s) ++ l)) same written }) closed
+    (λ written. record { schedule = s; lawful = p.lawful; read = whole; end = end.end; written = subst (λ (l : List ℕ). Appends held put (begun_run (Some s) ++ l)) same written; legal = run_is_legal s p.lawful.group }) closed
 
 -- where a read fails
 pub ends_cut : (begun : Option Schedule) (old new : List ℕ) (left now later held put : Option (List ℕ)) → IsBegun begun → Consumes left now (begun_text begun ++ old) → Appends held put (begun_run begun)

@@ -8,6 +8,8 @@ use Rattle.hm_rules.specs.Events as rule
 use Rattle.hm_rules.specs.World.{opens}
 use Rattle.hm_rules.specs.Runs.{run}
 use Rattle.hm_rules.specs.RunText.{events_text, order_text, bad_text, run_text}
+use Rattle.hm_order.specs.declared.mark.Mark.{Mark}
+use Rattle.hm_order.specs.Legal.{IsLegal}
 use Rattle.hm_order.specs.Order.{order}
 use Rattle.hm_world.specs.Declares.{max_events}
 use Rattle.hm_world.specs.Setups.{event_of}
@@ -69,9 +71,13 @@ abbrev pub begun_run : Option Schedule → List ℕ
 begun_run None = []
 begun_run (Some s) = events_text 1 (opens (setup_in s)) (events_in s) []
 
+-- the history of a schedule's run
+abbrev pub history_in : Schedule → List Mark
+history_in s = (run (opens (setup_in s)) (events_in s) []).history
+
 -- the end of the text, where the schedule ends there
 abbrev pub end_text : Schedule → List ℕ
-end_text s = order_text (order (run (opens (setup_in s)) (events_in s) []).history)
+end_text s = order_text (order (history_in s))
 
 -- a source's bytes are these lines, and then bytes that are outside the grammar
 pub record BreaksOff (begun : Option Schedule) (bytes : List ℕ) : Type 0 where
@@ -81,13 +87,15 @@ pub record BreaksOff (begun : Option Schedule) (bytes : List ℕ) : Type 0 where
 
 -- ---- how a replay ends
 
--- the source's bytes to its end were a schedule, and the text of its run was put
+-- the source's bytes to its end were a schedule, the text of its run was put, and the order at its end is one that a single
+-- object store could have given
 pub record IsWholeRun (left now held put : Option (List ℕ)) : Type 0 where
   pub schedule : Schedule
   pub lawful : IsSchedule schedule
   pub read : Consumes left now (schedule_text schedule)
   pub end : IsAtEnd now
   pub written : Appends held put (run_text (setup_in schedule) (events_in schedule) [])
+  pub legal : IsLegal (history_in schedule) (order (history_in schedule))
 
 -- the line of this number is the first outside the grammar; the text of the events before it was put, and then its number
 pub record IsBadRun (left held put : Option (List ℕ)) (number : ℕ) (reason : LineReason) : Type 0 where

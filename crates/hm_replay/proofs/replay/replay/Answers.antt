@@ -69,8 +69,8 @@ returns-in-Err-next_event g c =
       ends_cut (Some (made p.setup p.events)) _ _ _ _ _ _ _ p.lawful p.read p.written failed.0 failed.1,
     )
 
-pub events-init : goal.events-init
-events-init g c =
+pub loop-event-init : goal.loop-event-init
+loop-event-init g c =
     let came = rw c.in-Ok-Ok.field-0-is at c.in-Ok-Ok.ensures.next in
     let fresh : c.in-Ok.reader.ahead ≡ [] = ap (λ (r : Reading). r.ahead) c.in-Ok.ensures in
     record {
