@@ -16,6 +16,16 @@ returns-in-Ok-Err g c =
     let fresh : c.in-Ok.reader.ahead ≡ [] = ap (λ (r : Reading). r.ahead) c.in-Ok.ensures in
     ends_badly _ None _ _ _ _ _ _ _ _ _ _ 1 _ tt (subst (λ (l : List ℕ). Consumes (g.S.Source.left c.args.source.now) (g.S.Source.left c.args.source.now) l) (sym fresh) (consumes_none _)) (appends_none _) (omega arith) came refl c.refuse.ensures
 
+pub loop-event-init : goal.loop-event-init
+loop-event-init g c =
+    let came = rw c.in-Ok-Ok.field-0-is at c.in-Ok-Ok.ensures.next in
+    let fresh : c.in-Ok.reader.ahead ≡ [] = ap (λ (r : Reading). r.ahead) c.in-Ok.ensures in
+    record {
+      run = progress_start _ _ _ _ _ _ _ fresh came c.in-Ok-open.ensures.opened c.in-Ok-open.ensures.events;
+      read_later = c.next_setup.ensures.cause.later;
+      put_later = omega arith;
+    }
+
 pub returns-in-Err-write_event : goal.returns-in-Err-write_event
 returns-in-Err-write_event g c =
     let p = c.loop-event.invariant.run in
