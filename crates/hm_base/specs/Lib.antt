@@ -7,3 +7,4 @@ pub mod Verdicts
 pub mod Spellings
 pub mod Slots
 pub mod Taking
+pub mod StepCounts

@@ -11,6 +11,7 @@ pub mod reply;
 pub mod room;
 pub mod spelling;
 pub mod stamp;
+pub mod steps;
 #[cfg(test)]
 mod tests;
 pub mod text;

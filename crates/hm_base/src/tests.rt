@@ -5,6 +5,7 @@ use crate::node::Node;
 use crate::operation::{Answer, OpId};
 use crate::spelling::{read_number, read_value};
 use crate::stamp::{Stamp, is_at_most, is_below};
+use crate::steps::{Counted, Steps, Uncounted};
 use crate::text::{write_act, write_answer, write_node, write_op, write_stamp};
 use crate::value::{Value, is_same_value};
 use std::test::Fail;
@@ -136,4 +137,15 @@ fn writes_words(rt: HostRuntime) -> Result<(), Fail> {
         b"1.97.10wrotenone610femptylookc7s1r0cfg".as_slice()
     );
     Ok(())
+}
+
+#[test]
+fn counts_steps(rt: HostRuntime) {
+    let mut steps: Steps<Counted> = Steps::new();
+    assert_eq!(rt; steps.shown(), 0);
+    steps.tick();
+    steps.tick();
+    assert_eq!(rt; steps.shown(), 2);
+    let mut uncounted: Steps<Uncounted> = Steps::new();
+    uncounted.tick();
 }
