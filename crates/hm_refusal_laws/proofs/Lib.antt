@@ -1,0 +1,4 @@
+pub mod Settled
+pub mod FullRuns
+pub mod Ends
+pub mod Shown
