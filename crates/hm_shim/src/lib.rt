@@ -2,3 +2,5 @@
 #![tactic(auto)]
 
 pub mod shim;
+#[cfg(test)]
+mod tests;

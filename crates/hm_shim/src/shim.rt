@@ -1,7 +1,9 @@
 ghost use Rattle.std.specs.Prelude.{◌≡◌, ◌<◌, ◌≤◌, ◌+◌, ◌^◌, ◌↔◌, ◌++◌, ◌∷◌, [], max, length, take, IfOk, IsOk, OnOk, OnErr, IsTrue, nat_lt, Option, List};
+ghost use Rattle.hm_base.specs.Lists.{IsPrefix};
 ghost use Rattle.hm_base.specs.Logs as logs;
 ghost use Rattle.hm_base.specs.Verdicts as verdicts;
 ghost use Rattle.hm_store.specs.Log.{max_log_len};
+ghost use Rattle.hm_clients.specs.Table.{StandsFor};
 ghost use Rattle.hm_shim.specs.State.{applied_entries};
 ghost use Rattle.hm_shim.specs.Answered.{answered};
 
@@ -149,6 +151,19 @@ impl Shim {
         Ok(())
     }
 
+    /// The staged list becomes the log, with the client table of that log, and the staged list becomes empty. A log and its
+    /// table are one: a request that only the old log had is new again (Liskov and Cowling: the table goes with the log).
+    pub fn adopt(&mut self, staged: &mut Ledger)
+        requires caps { staged.old.cap ≡ self.old.cap }
+        requires begins { IsPrefix (applied_entries self.old) staged.old.entries }
+        ensures log { self.new ≡ record self.old { entries = staged.old.entries } }
+        ensures staged { staged.new ≡ record staged.old { entries = []; applied = 0 } }
+    {
+        self.log.replace(staged);
+        self.clients.clear();
+        note_all(&mut self.clients, self.log.entries(0, self.log.len()));
+    }
+
     /// Applies the log up to `k` entries.
     pub fn apply_to(&mut self, k: u32)
         requires rises { self.old.applied ≤ k }
@@ -156,6 +171,19 @@ impl Shim {
         ensures { self.new ≡ record self.old { applied = k } }
     {
         self.log.apply_to(k);
+    }
+}
+
+/// Notes each entry of a log with its index.
+fn note_all(clients: &mut ClientTable, log: &[Entry])
+    requires empty { StandsFor clients.old [] }
+    requires room { length log.now ≤ clients.old.cap }
+    requires few { length log.now < 2 ^ 32 }
+    ensures noted { StandsFor clients.new log.now }
+    ensures cap { clients.new.cap ≡ clients.old.cap }
+{
+    for (index, entry) in log.iter().enumerate() {
+        clients.note(entry, index as u32);
     }
 }
 

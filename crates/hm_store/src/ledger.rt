@@ -1,5 +1,6 @@
 ghost use Rattle.std.specs.Prelude.{◌≡◌, ◌<◌, ◌≤◌, ◌↔◌, [], ◌∷◌, ◌++◌, length, slice_get, IsOk, IsTrue, IfOk, OnOk, OnErr, nat_eq, vec_len, vec_capacity, ℕ, ◌+◌, drop, take, ◌-◌, fold};
 ghost use Rattle.std.specs.HashMap.{get, hash_map_len, spare};
+ghost use Rattle.hm_base.specs.Lists.{IsPrefix};
 ghost use Rattle.hm_base.specs.Logs.{last_write, end_stamp, write_over, page, max_page_len};
 ghost use Rattle.hm_store.specs.Log.{applied_entries, last_stamp, max_log_len};
 
@@ -12,6 +13,7 @@ use hm_base::value::Value;
 use std::alloc::Global;
 use std::collections::HashMap;
 use std::marker::Model;
+use std::mem::swap;
 
 /// The greatest number of entries that a log may have.
 pub const MAX_LOG_LEN: u32 = 16_384;
@@ -117,6 +119,36 @@ impl Ledger {
         self.applied_len = k;
     }
 
+    /// This log becomes the staged list, its applied prefix stays, and the staged list becomes empty.
+    pub fn replace(&mut self, staged: &mut Ledger)
+        requires caps { staged.old.cap ≡ self.old.cap }
+        requires begins { IsPrefix (applied_entries self.old) staged.old.entries }
+        ensures log { self.new ≡ record self.old { entries = staged.old.entries } }
+        ensures staged { staged.new ≡ record staged.old { entries = []; applied = 0 } }
+    {
+        swap(&mut self.entries, &mut staged.entries);
+        swap(&mut self.written, &mut staged.written);
+        staged.entries.clear();
+        staged.written.clear();
+        staged.applied.clear();
+        staged.applied_len = 0;
+    }
+
+    /// This log becomes the first `k` entries of another, and nothing is applied.
+    pub fn copy_front(&mut self, from: &Ledger, k: u32)
+        requires caps { from.now.cap ≡ self.old.cap }
+        requires within { k ≤ length from.now.entries }
+        ensures { self.new ≡ record self.old { entries = take k from.now.entries; applied = 0 } }
+    {
+        self.entries.clear();
+        self.written.clear();
+        self.applied.clear();
+        self.applied_len = 0;
+        let front = &from.entries[..k as usize];
+        note_writes(&mut self.written, front);
+        put_all(&mut self.entries, front);
+    }
+
     /// The stamp and value of the object's last write in the log. None exactly where it has none.
     pub fn latest(&self, object: u32) -> Option<(Stamp, Value)>
         ensures { result ≡ last_write self.now.entries object }
@@ -184,6 +216,17 @@ fn put(entries: &mut Vec<Entry>, entry: Entry)
     let _act = entry.act;
     let pushed: Result<_, _> = entries.push(entry);
     pushed.unwrap();
+}
+
+/// Puts entries into room that is there.
+fn put_all(entries: &mut Vec<Entry>, more: &[Entry])
+    requires { vec_len entries.old + length more.now ≤ vec_capacity entries.old }
+    ensures items { entries.new.items ≡ entries.old.items ++ more.now }
+    ensures room { vec_capacity entries.old ≤ vec_capacity entries.new }
+{
+    for entry in more {
+        put(entries, *entry);
+    }
 }
 
 /// Notes an entry that stands behind those noted, where it is a write.
