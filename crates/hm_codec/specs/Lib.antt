@@ -2,3 +2,4 @@ pub mod Bounds
 pub mod Grammar
 pub mod Packets
 pub mod Reading
+pub mod Writing

@@ -29,7 +29,7 @@ is_within low high n = nat_le low n && nat_le n high
 
 -- client, switch, replica or configuration service, and which one: replicas go up to 6, and there is one service, 0
 abbrev pub may_be_node : ℕ → ℕ → Bool
-may_be_node tag n = if tag == 3 then nat_le n 6 else if tag == 4 then n == 0 else true
+may_be_node tag n = if tag == 3 then nat_le n 6 else if tag == 4 then nat_le n 0 else true
 
 abbrev pub node_fields : Grammar → Grammar
 node_fields rest = field U8 (is_within 1 4) reason.Node (λ tag. field U32 (may_be_node tag) reason.Range (λ n. rest))

@@ -1,5 +1,5 @@
 -- Reading packets from left to right, part by part: each part with the bytes after it, or a fault.
-use Rattle.std.specs.Prelude.{ℕ, zero, suc, ◌+◌, ◌-◌, ◌≡◌, Bool, true, ◌==◌, nat_lt, if◌then◌else◌, List, [], ◌∷◌, ◌++◌, length, take, drop, Result, Ok, Err}
+use Rattle.std.specs.Prelude.{ℕ, zero, suc, ◌+◌, ◌-◌, min, ◌≡◌, Bool, true, ◌==◌, nat_lt, nat_le, if◌then◌else◌, List, [], ◌∷◌, ◌++◌, length, take, drop, Result, Ok, Err}
 use Rattle.hm_base.specs.Padded.{max_value_len}
 use Rattle.hm_base.specs.Logs.{max_page_len}
 use Rattle.hm_base.specs.declared.node.Node.{Node}
@@ -33,11 +33,13 @@ use Rattle.hm_packet.specs.declared.body.Body.TheVariants as body
 use Rattle.hm_packet.specs.Routing.{Routing}
 use Rattle.hm_packet.specs.Messages.{Message}
 use Rattle.hm_codec.specs.declared.fault.Fault.{Fault}
+use Rattle.hm_codec.specs.declared.head.Head.{Head}
+use Rattle.hm_codec.specs.declared.malformed.Malformed.{Malformed}
 use Rattle.hm_codec.specs.declared.malformed.Reason.{Reason}
 use Rattle.hm_codec.specs.declared.malformed.Reason.TheVariants as reason
 use Rattle.hm_codec.specs.Grammar.{Size, size, number_of}
 use Rattle.hm_codec.specs.Grammar.Size.{U8, U32, U64}
-use Rattle.hm_codec.specs.Packets.{is_within, may_be_node}
+use Rattle.hm_codec.specs.Packets.{is_within}
 
 infixl 10 ◌>>=◌
 abbrev pub ◌>>=◌ : {A B : Type 0} → Result A Fault → (A → Result B Fault) → Result B Fault
@@ -66,14 +68,20 @@ number_at s bytes = if nat_lt (length bytes) (size s) then Err short else Ok (nu
 unfoldable pub run_at : ℕ → List ℕ → Part (List ℕ)
 run_at n bytes = if nat_lt (length bytes) n then Err short else Ok (take n bytes, drop n bytes)
 
-abbrev pub node_of : ℕ → ℕ → Node
-node_of tag n = if tag == 1 then node.Client n else if tag == 2 then node.Switch n else if tag == 3 then node.Replica n else node.Config
+abbrev pub as_node : (ℕ → Node) → Part ℕ → Part Node
+as_node kind number = number >>= λ n. Ok (kind n.0, n.1)
+
+abbrev pub node_of : ℕ → List ℕ → Part Node
+node_of tag rest =
+    if tag == 1 then as_node (λ n. node.Client n) (number_at U32 rest)
+    else if tag == 2 then as_node (λ n. node.Switch n) (number_at U32 rest)
+    else if tag == 3 then as_node (λ n. node.Replica n) (field_at U32 (λ n. nat_le n 6) reason.Range rest)
+    else as_node (λ n. node.Config) (field_at U32 (λ n. nat_le n 0) reason.Range rest)
 
 unfoldable pub node_at : List ℕ → Part Node
 node_at bytes = do
   tag ← field_at U8 (is_within 1 4) reason.Node bytes
-  n ← field_at U32 (may_be_node tag.0) reason.Range tag.1
-  Ok (node_of tag.0 n.0, n.1)
+  node_of tag.0 tag.1
 
 unfoldable pub stamp_at : List ℕ → Part Stamp
 stamp_at bytes = do
@@ -307,12 +315,29 @@ body_at code bytes =
 abbrev pub whole : Message → List ℕ → Result Message Fault
 whole m rest = if length rest == 0 then Ok m else Err (record { left = length rest; reason = reason.Rest })
 
--- all of the bytes
-unfoldable pub packet_of : List ℕ → Result Message Fault
-packet_of bytes = do
+-- the source, the destination and the body
+abbrev pub end_with : Node → Node → Part Body → Result Message Fault
+end_with src dst read = read >>= λ b. whole (record { src = src; dst = dst; body = b.0 }) b.1
+
+-- version, kind, source and destination
+unfoldable pub head_at : List ℕ → Part Head
+head_at bytes = do
   version ← field_at U8 (is_within 1 1) reason.Version bytes
   code ← field_at U8 (is_within 1 19) reason.Kind version.1
   src ← node_at code.1
   dst ← node_at src.1
-  b ← body_at code.0 dst.1
-  whole (record { src = src.0; dst = dst.0; body = b.0 }) b.1
+  Ok (record { len = length bytes; code = code.0; src = src.0; dst = dst.0 }, dst.1)
+
+-- all of the bytes
+unfoldable pub packet_of : List ℕ → Result Message Fault
+packet_of bytes = do
+  head ← head_at bytes
+  end_with head.0.src head.0.dst (body_at head.0.code head.1)
+
+-- a fault by its place, at most the greatest `u32`
+abbrev pub located_at : ℕ → Fault → Malformed
+located_at total f = record { at = min (total - f.left) 4294967295; reason = f.reason }
+
+abbrev pub located : ℕ → Result Message Fault → Result Message Malformed
+located total (Ok m) = Ok m
+located total (Err f) = Err (located_at total f)

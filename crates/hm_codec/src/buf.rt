@@ -1,5 +1,6 @@
 ghost use Rattle.std.specs.Prelude.{◌≡◌, ◌≤◌, ◌↔◌, [], ◌++◌, length, IsSome, IfSome};
 ghost use Rattle.hm_codec.specs.Bounds.{max_len};
+ghost use Rattle.hm_codec.specs.Writing.{Adds};
 
 use arrayvec::ArrayVec;
 use std::marker::Model;
@@ -60,7 +61,7 @@ impl Buf {
 
     /// Puts bytes behind the others, where there is room for them.
     pub(crate) fn push(&mut self, bytes: &[u8])
-        ensures { length (self.old ++ bytes.now) ≤ max_len → self.new ≡ self.old ++ bytes.now }
+        ensures { Adds self.old self.new bytes.now }
     {
         let _ = self.list.try_extend_from_slice(bytes);
     }

@@ -1,80 +1,59 @@
 ghost use Rattle.std.specs.Prelude.{◌≡◌, ◌≤◌, ◌↔◌, length, None, Some, IsOk, IfOk, IfErr};
+ghost use Rattle.hm_packet.specs.Messages.{IsLawfulNode};
 ghost use Rattle.hm_codec.specs.Packets.{spelling, first_fault, HasSpelling};
 ghost use Rattle.hm_codec.specs.Reading as reading;
-ghost use Rattle.hm_codec.specs.Reading.{Gives, packet_of};
+ghost use Rattle.hm_codec.specs.Reading.{located, end_with, packet_of};
 
-use crate::bodies::{
-    ask_at, config_at, done_at, fast_read_at, feed_ack_at, feed_at, known_at, normal_read_at,
-    page_at, pull_at, put_at, read_at, refuse_at, refused_at, reply_at, route_at,
-    start_view_change_at, vote_at, write_at,
+use crate::fault::malformed;
+use crate::head::{Head, head_at};
+use crate::kinds::{
+    ask_packet, config_packet, done_packet, fast_read_packet, feed_ack_packet, feed_packet,
+    known_packet, normal_read_packet, page_packet, pull_packet, put_packet, read_packet,
+    refuse_packet, refused_packet, reply_packet, route_packet, start_view_change_packet,
+    vote_packet, write_packet,
 };
-use crate::fault::Fault;
-use crate::fields::u8_within;
-use crate::malformed::{Malformed, Reason};
-use crate::parts::node_at;
-use hm_packet::body::Body;
+use crate::malformed::Malformed;
 use hm_packet::packet::Packet;
 
-/// The body that was read, or the fault.
-macro_rules! body {
-    ($kind:ident, $read:expr) => {
-        match $read {
-            Ok((body, rest)) => Ok((Body::$kind(body), rest)),
-            Err(fault) => Err(fault),
-        }
-    };
-}
-
-/// Reads the body of the kind with this code.
+/// Reads the rest of a packet, whose head was read.
 #[tactic(auto, unfolding(crate::specs::Reading::body_at))]
-#[inline]
-fn body_at(code: u8, bytes: &[u8]) -> Result<(Body, &[u8]), Fault>
-    ensures { Gives (λ x. (x.0, x.1.now)) result (reading.body_at code bytes.now) }
+fn packet_at(head: Head, bytes: &[u8]) -> Result<Packet, Malformed>
+    requires src { IsLawfulNode head.src }
+    requires dst { IsLawfulNode head.dst }
+    ensures { result ≡ located head.len (end_with head.src head.dst (reading.body_at head.code bytes.now)) }
 {
-    match code {
-        1 => body!(Read, read_at(bytes)),
-        2 => body!(Write, write_at(bytes)),
-        3 => body!(Put, put_at(bytes)),
-        4 => body!(FastRead, fast_read_at(bytes)),
-        5 => body!(NormalRead, normal_read_at(bytes)),
-        6 => body!(Done, done_at(bytes)),
-        7 => body!(Reply, reply_at(bytes)),
-        8 => body!(Feed, feed_at(bytes)),
-        9 => body!(FeedAck, feed_ack_at(bytes)),
-        10 => body!(Ask, ask_at(bytes)),
-        11 => body!(Known, known_at(bytes)),
-        12 => body!(StartViewChange, start_view_change_at(bytes)),
-        13 => body!(Vote, vote_at(bytes)),
-        14 => body!(Pull, pull_at(bytes)),
-        15 => body!(Page, page_at(bytes)),
-        16 => body!(Config, config_at(bytes)),
-        17 => body!(Route, route_at(bytes)),
-        18 => body!(Refuse, refuse_at(bytes)),
-        _ => body!(Refused, refused_at(bytes)),
+    match head.code {
+        1 => read_packet(head, bytes),
+        2 => write_packet(head, bytes),
+        3 => put_packet(head, bytes),
+        4 => fast_read_packet(head, bytes),
+        5 => normal_read_packet(head, bytes),
+        6 => done_packet(head, bytes),
+        7 => reply_packet(head, bytes),
+        8 => feed_packet(head, bytes),
+        9 => feed_ack_packet(head, bytes),
+        10 => ask_packet(head, bytes),
+        11 => known_packet(head, bytes),
+        12 => start_view_change_packet(head, bytes),
+        13 => vote_packet(head, bytes),
+        14 => pull_packet(head, bytes),
+        15 => page_packet(head, bytes),
+        16 => config_packet(head, bytes),
+        17 => route_packet(head, bytes),
+        18 => refuse_packet(head, bytes),
+        _ => refused_packet(head, bytes),
     }
 }
 
-/// Reads a packet, all of the bytes.
+/// The packet that the bytes spell, or their first fault, but for its place where that is above `u32`.
 #[tactic(auto, unfolding(crate::specs::Reading::packet_of))]
-fn packet_in(bytes: &[u8]) -> Result<Packet, Fault>
-    ensures { Gives (λ p. p) result (packet_of bytes.now) }
+#[inline]
+fn packet_in(bytes: &[u8]) -> Result<Packet, Malformed>
+    ensures { result ≡ located (length bytes.now) (packet_of bytes.now) }
 {
-    let (_, rest) = u8_within(bytes, 1, 1, Reason::Version)?;
-    let (code, rest) = u8_within(rest, 1, 19, Reason::Kind)?;
-    let (src, rest) = node_at(rest)?;
-    let (dst, rest) = node_at(rest)?;
-    match body_at(code, rest) {
-        Ok((body, rest)) => {
-            if rest.is_empty() {
-                Ok(Packet { src, dst, body })
-            } else {
-                Err(Fault {
-                    left: rest.len(),
-                    reason: Reason::Rest,
-                })
-            }
-        }
-        Err(fault) => Err(fault),
+    match head_at(bytes) {
+        Ok((head, rest)) => packet_at(head, rest),
+        Err(fault) => Err(malformed(bytes.len(), fault)),
     }
 }
 
@@ -86,11 +65,5 @@ pub fn decode(bytes: &[u8]) -> Result<Packet, Malformed>
     ensures err { IfErr result (λ m. first_fault bytes.now ≡ Some m) }
     ensures place { IfErr result (λ m. m.at ≤ length bytes.now) }
 {
-    match packet_in(bytes) {
-        Ok(packet) => Ok(packet),
-        Err(fault) => Err(Malformed {
-            at: (bytes.len() - fault.left) as u32,
-            reason: fault.reason,
-        }),
-    }
+    packet_in(bytes)
 }

@@ -7,6 +7,8 @@ pub mod decode;
 pub mod encode;
 mod fault;
 mod fields;
+mod head;
+mod kinds;
 mod lists;
 pub mod malformed;
 mod parts;

@@ -62,12 +62,16 @@ fn more_at(count: u8, members: Members, least: u8, bytes: &[u8]) -> Result<(Memb
     let mut least = least;
     let mut rest = bytes;
     for _ in 0..count {
-        let (member, after) = u8_within(rest, least, 6, Reason::Range)?;
-        if members.try_push(member).is_err() {
-            return Err(SHORT);
+        match u8_within(rest, least, 6, Reason::Range) {
+            Ok((member, after)) => {
+                if members.try_push(member).is_err() {
+                    return Err(SHORT);
+                }
+                least = member + 1;
+                rest = after;
+            }
+            Err(fault) => return Err(fault),
         }
-        least = member + 1;
-        rest = after;
     }
     Ok((members, rest))
 }
