@@ -3,11 +3,12 @@ use Rattle.std.proofs.Common.{◌≡◌, ℕ, ◌-◌, ◌≤◌, min, true, fal
 use Rattle.std.specs.Prelude.{◌↔◌, IsOk, IfOk, IfErr}
 use Rattle.hm_packet.specs.Messages.{Message}
 use Rattle.hm_codec.specs.declared.fault.Fault.{Fault}
+use Rattle.hm_codec.specs.declared.head.Head.{Head}
 use Rattle.hm_codec.specs.declared.malformed.Malformed.{Malformed}
 use Rattle.hm_codec.specs.Grammar.{spell, fault, Leads}
 use Rattle.hm_codec.specs.Grammar.Grammar.{ended}
 use Rattle.hm_codec.specs.Packets.{packet_fields, numbers, spelling, first_fault, HasSpelling}
-use Rattle.hm_codec.specs.Reading.{packet_of, located_at, located}
+use Rattle.hm_codec.specs.Reading.{◌>>=◌, Part, head_at, body_at, end_with, packet_of, located_at, located}
 use Rattle.hm_codec.proofs.GrammarLaws.{IsBytes, no_fault}
 use Rattle.hm_codec.proofs.Readers.{placed}
 use Rattle.hm_codec.proofs.PacketReader.{packet_good, packet_bad}
@@ -49,3 +50,18 @@ answers bytes r fits is = subst (λ (x : Result Message Malformed). Answers byte
           err = e ∙ ap (λ (k : ℕ). Some (record { at = k; reason = f.reason })) at;
           place = omega arith;
         }
+
+-- the same of a packet whose head was read first
+pub decoded : (bytes : List ℕ) (head : Head) (rest : List ℕ) (r : Result Message Malformed) → IsBytes bytes → head_at bytes ≡ Ok (head, rest) → head.len ≡ length bytes
+    → r ≡ located head.len (end_with head.src head.dst (body_at head.code rest)) → Answers bytes r
+unfolding packet_of
+decoded bytes head rest r fits read len is =
+    let all : packet_of bytes ≡ end_with head.src head.dst (body_at head.code rest) = ap (λ (x : Part Head). x >>= λ h. end_with h.0.src h.0.dst (body_at h.0.code h.1)) read in
+    answers bytes r fits (is ∙ ap (λ (n : ℕ). located n (end_with head.src head.dst (body_at head.code rest))) len ∙ ap (λ (x : Result Message Fault). located (length bytes) x) (sym all))
+
+-- bytes whose head is at fault
+pub headless : (bytes : List ℕ) (f : Fault) (r : Result Message Malformed) → IsBytes bytes → head_at bytes ≡ Err f → r ≡ Err (located_at (length bytes) f) → Answers bytes r
+unfolding packet_of
+headless bytes f r fits read is =
+    let all : packet_of bytes ≡ Err f = ap (λ (x : Part Head). x >>= λ h. end_with h.0.src h.0.dst (body_at h.0.code h.1)) read in
+    answers bytes r fits (is ∙ ap (λ (x : Result Message Fault). located (length bytes) x) (sym all))

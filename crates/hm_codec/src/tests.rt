@@ -7,6 +7,7 @@ use std::test::Fail;
 
 /// A packet's bytes, and where and why they are at fault with one byte set to 255: the byte, the fault's place, and the
 /// reason. With any other byte set to 255 they are another packet's.
+#[derive(Drop)]
 struct Case {
     bytes: &'static [u8],
     faults: &'static [(usize, u32, Reason)],
