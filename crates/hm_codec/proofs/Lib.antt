@@ -1,0 +1,9 @@
+pub mod GrammarLaws
+pub mod Readers
+pub mod PartReaders
+pub mod BodyReaders
+pub mod PacketReader
+pub mod Loops
+pub mod Lengths
+pub mod Decoded
+pub mod Writers

@@ -1,0 +1,5 @@
+pub mod Bounds
+pub mod Grammar
+pub mod Packets
+pub mod Reading
+pub mod Writing

@@ -1,0 +1,16 @@
+//! Packets on the wire: the one spelling of each packet, and the first fault of bytes that spell none.
+#![tactic(auto)]
+
+mod bodies;
+pub mod buf;
+pub mod decode;
+pub mod encode;
+mod fault;
+mod fields;
+mod head;
+mod kinds;
+mod lists;
+pub mod malformed;
+mod parts;
+#[cfg(test)]
+mod tests;
