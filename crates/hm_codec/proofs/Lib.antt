@@ -7,3 +7,4 @@ pub mod Loops
 pub mod Lengths
 pub mod Decoded
 pub mod Writers
+pub mod Unread

@@ -9,6 +9,7 @@ mod fault;
 mod fields;
 mod head;
 mod kinds;
+pub mod laws;
 mod lists;
 pub mod malformed;
 mod parts;
