@@ -1,5 +1,3 @@
-pub mod Copied
-pub mod KnownBytes
 pub mod BufferParts
 pub mod FieldTexts
 pub mod Names

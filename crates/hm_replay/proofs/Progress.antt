@@ -26,7 +26,7 @@ use Rattle.hm_replay.specs.LineTexts.{IsLine, ended}
 use Rattle.hm_replay.specs.Lines.{Moves, IsFinished}
 use Rattle.hm_replay.specs.Schedules.{IsLawfulGroup, IsLawfulEvent, line_text, default_setup}
 use Rattle.hm_replay.specs.Reasons.{reason_text}
-use Rattle.hm_replay.specs.Faults.{Rose}
+use Rattle.hm_frame.specs.Faults.{Rose}
 use Rattle.hm_replay.specs.Outside.{IsOutside}
 use Rattle.hm_replay.specs.Nexts.{ComesGroup, ComesEvent, ComesBadly}
 use Rattle.hm_replay.specs.Replays.{Schedule, IsSchedule, setup_in, events_in, history_in, event_line, schedule_text, IsBegun, begun_text, begun_lines, begun_events, begun_run, end_text, BreaksOff, IsCutRun, IsPartialRun, IsClosing}
@@ -36,7 +36,7 @@ use Rattle.hm_replay.specs.declared.schedule.Line.TheVariants as line
 use Rattle.hm_replay.specs.declared.schedule.LineReason.{LineReason}
 use Rattle.hm_replay.specs.declared.status.Status.{Status}
 use Rattle.hm_replay.specs.declared.status.Status.TheVariants as status
-use Rattle.hm_replay.proofs.KnownBytes.{appends_then, consumes_then, appends_none}
+use Rattle.hm_frame.proofs.KnownBytes.{appends_then, consumes_then, appends_none}
 use Rattle.hm_replay.proofs.RunLaws.{run_push, events_text_push}
 
 -- ---- bytes that were taken

@@ -2,7 +2,7 @@
 use Rattle.std.specs.Prelude.{◌≡◌, ℕ, List, [], Option, ◌⊎◌}
 use Rattle.std.specs.Io.KnownBytes.{Appends}
 use Rattle.hm_base.specs.Lists.{IsPrefix}
-use Rattle.hm_replay.specs.Faults.{Rose}
+use Rattle.hm_frame.specs.Faults.{Rose}
 use Rattle.hm_replay.specs.declared.status.Status.{Status}
 use Rattle.hm_replay.specs.declared.status.Status.TheVariants.{WriteFault, NoMemory}
 

@@ -1,8 +1,5 @@
-pub mod Adapters
 pub mod Buffers
 pub mod Closings
-pub mod Ends
-pub mod Faults
 pub mod Fills
 pub mod LineTexts
 pub mod LineWords

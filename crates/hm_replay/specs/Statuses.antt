@@ -1,6 +1,6 @@
 -- How a run ends, and with which status its program ends then.
 use Rattle.std.specs.Prelude.{ℕ, List, Option}
-use Rattle.hm_replay.specs.Faults.{Rose}
+use Rattle.hm_frame.specs.Faults.{Rose}
 use Rattle.hm_replay.specs.Replays.{IsWholeRun, IsBadRun, IsCutRun, IsPartialRun}
 use Rattle.hm_replay.specs.declared.status.Status.{Status}
 use Rattle.hm_replay.specs.declared.status.Status.TheVariants as status

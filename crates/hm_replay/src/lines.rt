@@ -1,10 +1,10 @@
 ghost use Rattle.std.specs.Prelude.{◌≡◌, ◌+◌, ◌-◌, ◌<◌, ◌≤◌, [], ◌++◌, length, take, drop, slice_range, vec_len, IfOk, IfSome, IfNone};
-ghost use Rattle.hm_replay.specs.Faults.{HasCause};
+ghost use Rattle.hm_frame.specs.Faults.{HasCause};
 ghost use Rattle.hm_replay.specs.LineTexts.{IsLine, ended};
 ghost use Rattle.hm_replay.specs.Fills.{Fills, filled_count};
 
-use crate::outside::{Failed, Source};
 use hm_base::memory::NoMemory;
+use hm_frame::outside::{Failed, Source};
 use memchr::memchr;
 use std::alloc::Global;
 use std::marker::Model;

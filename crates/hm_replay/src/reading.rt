@@ -1,13 +1,13 @@
 ghost use Rattle.std.specs.Prelude.{◌≡◌, ◌++◌, [], ℕ, List, Some, IfOk, MatchResult};
-ghost use Rattle.hm_replay.specs.Faults.{HasCause};
+ghost use Rattle.hm_frame.specs.Faults.{HasCause};
 ghost use Rattle.hm_replay.specs.LineTexts.{IsLine, ended};
 ghost use Rattle.hm_replay.specs.Lines.{Moves};
 ghost use Rattle.hm_replay.specs.Schedules.{IsLawful, line_text};
 ghost use Rattle.hm_replay.specs.Nexts.{ComesOrFails, IsSpelledBy, SetupComes, EventComes};
 
 use crate::lines::{Found, LineReader};
-use crate::outside::{Failed, Source};
 use crate::schedule::{Line, LineReason, default_setup, read_line};
+use hm_frame::outside::{Failed, Source};
 use hm_world::event::{Event, MAX_EVENTS, Setup};
 
 /// What comes next of a schedule: a line, the end of the input, or bytes that are no line.

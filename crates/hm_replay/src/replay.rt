@@ -4,18 +4,18 @@ ghost use Rattle.hm_rules.specs.RunText.{order_text, bad_text};
 ghost use Rattle.hm_replay.specs.Reasons.{reason_text};
 ghost use Rattle.hm_replay.specs.Closings.{Closes};
 ghost use Rattle.hm_replay.specs.Statuses.{Ends};
-ghost use Rattle.hm_replay.specs.Faults.{Rose};
+ghost use Rattle.hm_frame.specs.Faults.{Rose};
 ghost use Rattle.hm_replay.specs.Replays.{IsWholeRun, IsBadRun, IsCutRun, IsPartialRun};
 ghost use Rattle.hm_replay.specs.declared.schedule.LineReason.{LineReason};
 
 use crate::events::write_event;
 use crate::lines::LineReader;
-use crate::outside::{Sink, Source, put_all};
 use crate::reading::{NextEvent, next_event, next_setup};
 use crate::run_text::{write_bad, write_order};
 use crate::schedule::LineReason;
 use crate::status::Status;
 use crate::words::is_replay;
+use hm_frame::outside::{Sink, Source, put_all};
 use hm_world::world::World;
 use std::alloc::Global;
 

@@ -1,9 +1,9 @@
-use crate::adapters::{ReaderSource, WriterSink};
-use crate::memory::{MemorySink, MemorySource};
-use crate::outside::Source;
 use crate::replay::run;
 use crate::status::Status;
-use crate::sure::{SureSink, SureSource};
+use hm_frame::adapters::{ReaderSource, WriterSink};
+use hm_frame::memory::{MemorySink, MemorySource};
+use hm_frame::outside::Source;
+use hm_frame::sure::{SureSink, SureSource};
 use std::alloc::{AllocError, Global};
 use std::io;
 use std::io::Read;

@@ -3,7 +3,7 @@ use Rattle.std.specs.Io.KnownBytes.{Consumes}
 use Rattle.hm_replay.specs.Lines.{Reading}
 use Rattle.hm_replay.specs.Nexts.{ComesEvent, ComesBadly}
 use Rattle.hm_replay.specs.Replays.{schedule_text}
-use Rattle.hm_replay.proofs.KnownBytes.{consumes_none, appends_none}
+use Rattle.hm_frame.proofs.KnownBytes.{consumes_none, appends_none}
 use Rattle.hm_replay.proofs.Progress.{made, read_on, progress_start, progress_more, rose_since, ends_badly, ends_whole, ends_cut, ends_empty, ends_event}
 use Rattle.hm_replay.proofs.replay.replay.Goals as goal
 

@@ -1,8 +1,8 @@
 use Rattle.std.proofs.Common.{◌≤◌, ◌-◌, take, length, drop, arith, subst, List, ℕ}
 use Rattle.std.proofs.lemmas.List.{length-drop, length-take, take_all}
 use Rattle.std.specs.Io.KnownBytes.{Appends}
-use Rattle.hm_replay.proofs.KnownBytes.{put_more, put_part}
-use Rattle.hm_replay.proofs.outside.put_all.Goals as goal
+use Rattle.hm_frame.proofs.KnownBytes.{put_more, put_part}
+use Rattle.hm_frame.proofs.outside.put_all.Goals as goal
 
 pub loop-at-preserved : goal.loop-at-preserved
 loop-at-preserved g c =

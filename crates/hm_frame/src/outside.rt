@@ -2,7 +2,7 @@ ghost use Rattle.std.specs.Prelude.{ℕ, ◌+◌, ◌-◌, ◌<◌, ◌≤◌, L
 ghost use Rattle.std.specs.Io.{ReadsAtMost};
 ghost use Rattle.std.specs.Io.KnownBytes.{ReadConsumes, WriteAppends, Appends};
 ghost use Rattle.hm_base.specs.Lists.{IsPrefix};
-ghost use Rattle.hm_replay.specs.Faults.{HasCause};
+ghost use Rattle.hm_frame.specs.Faults.{HasCause};
 
 /// A device gave up. What it tells is as before the call.
 #[derive(Clone, Copy, Debug, PartialEq, Eq)]

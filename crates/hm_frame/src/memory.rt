@@ -1,7 +1,7 @@
 ghost use Rattle.std.specs.Prelude.{◌≡◌, ◌+◌, ◌-◌, ◌<◌, ◌≤◌, ◌↔◌, ◌⊎◌, [], ◌++◌, Some, Contains, IsErr, IfOk, Ok, length, take, drop, min};
 ghost use Rattle.std.specs.Io.{ReadsAtMost};
 ghost use Rattle.std.specs.Io.KnownBytes.{ReadConsumes, WriteAppends};
-ghost use Rattle.hm_replay.specs.Faults.{HasCause, one_more};
+ghost use Rattle.hm_frame.specs.Faults.{HasCause, one_more};
 
 use crate::outside::{Failed, Sink, Source};
 use hm_base::memory::NoMemory;
@@ -30,7 +30,7 @@ pub struct MemorySource {
 
 impl Model for MemorySource {
     ghost use Rattle.std.specs.Prelude.{◌≤◌, drop, length};
-    ghost use Rattle.hm_replay.specs.Ends.{Supply};
+    ghost use Rattle.hm_frame.specs.Ends.{Supply};
 
     ghost Value = { Supply };
 
@@ -89,7 +89,7 @@ pub struct MemorySink {
 
 impl Model for MemorySink {
     ghost use Rattle.std.specs.Prelude.{◌≤◌, length, vec_capacity};
-    ghost use Rattle.hm_replay.specs.Ends.{Store};
+    ghost use Rattle.hm_frame.specs.Ends.{Store};
 
     ghost Value = { Store };
 
