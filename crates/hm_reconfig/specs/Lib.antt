@@ -1,0 +1,2 @@
+pub mod Groups
+pub use Rattle.hm_rules.specs.Service
