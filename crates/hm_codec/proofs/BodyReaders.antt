@@ -1,10 +1,6 @@
 -- The readers of the kinds of packets.
-use Rattle.std.proofs.Common.{◌≡◌, ℕ, zero, suc, ◌+◌, ◌-◌, ◌<◌, ◌≤◌, Bool, true, false, cond, List, [], ◌∷◌, ◌++◌, length, Option, Some, None, Result, Ok, Err, refl, sym, ap, subst, ◌∙◌, append_assoc, arith}
+use Rattle.std.proofs.Common.{ℕ, List, [], ◌∷◌, ◌++◌, Ok, refl, ap, ◌∙◌}
 use Rattle.std.proofs.lemmas.List.{append-nil}
-use Rattle.hm_base.specs.declared.node.Node.{Node}
-use Rattle.hm_base.specs.declared.stamp.Stamp.{Stamp}
-use Rattle.hm_base.specs.declared.operation.Answer.{Answer}
-use Rattle.hm_packet.specs.declared.body.Body.{Body}
 use Rattle.hm_packet.specs.declared.body.Body.TheVariants as body
 use Rattle.hm_packet.specs.declared.body.Read.{Read}
 use Rattle.hm_packet.specs.declared.body.Write.{Write}
@@ -26,10 +22,10 @@ use Rattle.hm_packet.specs.declared.body.Refused.{Refused}
 use Rattle.hm_packet.specs.declared.body.Put.{Put as PutBody}
 use Rattle.hm_packet.specs.Routing.{Routing}
 use Rattle.hm_codec.specs.declared.malformed.Reason.TheVariants as reason
-use Rattle.hm_codec.specs.Grammar.{Grammar, number}
+use Rattle.hm_codec.specs.Grammar.{number}
 use Rattle.hm_codec.specs.Grammar.Size.{U8, U32, U64}
 use Rattle.hm_codec.specs.Packets.{is_within, stamp_fields, value_fields, answer_fields, page_fields, replica_field, members_fields, stamp_numbers, value_numbers, answer_numbers, page_numbers, members_numbers, body_numbers}
-use Rattle.hm_codec.specs.Reading.{◌>>=◌, Part, field_at, number_at, stamp_at, value_at, answer_at, entries_at, members_at, read_at, write_at, put_at, fast_read_at, normal_read_at, done_at, reply_at, feed_at, feed_ack_at, ask_at, known_at, start_view_change_at, vote_at, pull_at, page_at, config_at, route_at, refuse_at, refused_at}
+use Rattle.hm_codec.specs.Reading.{◌>>=◌, field_at, number_at, stamp_at, value_at, answer_at, entries_at, members_at, read_at, write_at, put_at, fast_read_at, normal_read_at, done_at, reply_at, feed_at, feed_ack_at, ask_at, known_at, start_view_change_at, vote_at, pull_at, page_at, config_at, route_at, refuse_at, refused_at}
 use Rattle.hm_codec.proofs.Readers.{IsReader, reader_of, chain, finish}
 use Rattle.hm_codec.proofs.PartReaders.{alone, field_reader, number_reader, stamp_reader, value_reader, answer_reader, entries_reader, members_reader}
 

@@ -1,12 +1,11 @@
 -- What decoding gives.
-use Rattle.std.proofs.Common.{◌≡◌, ℕ, ◌-◌, ◌≤◌, min, true, false, List, length, Option, Some, None, Result, Ok, Err, refl, sym, ap, subst, ◌∙◌, arith}
+use Rattle.std.proofs.Common.{◌≡◌, ℕ, ◌-◌, ◌≤◌, min, List, length, Some, None, Result, Ok, Err, refl, sym, ap, subst, ◌∙◌, arith}
 use Rattle.std.specs.Prelude.{◌↔◌, IsOk, IfOk, IfErr}
 use Rattle.hm_packet.specs.Messages.{Message}
 use Rattle.hm_codec.specs.declared.fault.Fault.{Fault}
 use Rattle.hm_codec.specs.declared.head.Head.{Head}
 use Rattle.hm_codec.specs.declared.malformed.Malformed.{Malformed}
-use Rattle.hm_codec.specs.Grammar.{spell, fault, Leads}
-use Rattle.hm_codec.specs.Grammar.Grammar.{ended}
+use Rattle.hm_codec.specs.Grammar.{spell}
 use Rattle.hm_codec.specs.Packets.{packet_fields, numbers, spelling, first_fault, HasSpelling}
 use Rattle.hm_codec.specs.Reading.{◌>>=◌, Part, head_at, body_at, end_with, packet_of, located_at, located}
 use Rattle.hm_codec.proofs.GrammarLaws.{IsBytes, no_fault}

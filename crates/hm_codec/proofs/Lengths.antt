@@ -1,6 +1,5 @@
 -- How many bytes packets take, and how far in a fault can lie.
-use Rattle.std.proofs.Common.{◌≡◌, ℕ, zero, suc, ◌+◌, ◌-◌, ◌*◌, ◌<◌, ◌≤◌, Bool, true, false, cond, eqb, ltb, List, [], ◌∷◌, ◌++◌, length, take, drop, Option, Some, None, refl, sym, ap, subst, ◌∙◌, arith, inl, inr}
-use Rattle.std.specs.Prelude.{nat_le}
+use Rattle.std.proofs.Common.{◌≡◌, ℕ, zero, suc, ◌+◌, ◌-◌, ◌*◌, ◌≤◌, Bool, true, false, cond, eqb, ltb, List, [], ◌∷◌, length, take, drop, Some, refl, arith, inl, inr}
 use Rattle.std.proofs.lemmas.Bool.{cases_lt, lt-ltb, le-ltb}
 use Rattle.std.proofs.lemmas.Bool.Decides.{nat_tests}
 use Rattle.std.proofs.lemmas.List.{length-append, length-drop}
@@ -13,7 +12,7 @@ use Rattle.hm_codec.specs.declared.malformed.Reason.TheVariants as reason
 use Rattle.hm_codec.specs.Grammar.{Size, size, number_of, Grammar, spell, fault, Leads, number}
 use Rattle.hm_codec.specs.Grammar.Size.{U8, U32, U64}
 use Rattle.hm_codec.specs.Grammar.Grammar.{ended, field}
-use Rattle.hm_codec.specs.Packets.{is_within, may_be_node, node_fields, stamp_fields, run, value_fields, answer_fields, act_fields, entry_fields, many, page_fields, replica_field, rising, members_fields, kinds, body_fields, packet_fields, numbers, spelling, first_fault, HasSpelling, max_spelling_len}
+use Rattle.hm_codec.specs.Packets.{is_within, may_be_node, node_fields, stamp_fields, run, value_fields, answer_fields, act_fields, entry_fields, many, page_fields, replica_field, rising, members_fields, body_fields, packet_fields, numbers, spelling, first_fault, HasSpelling, max_spelling_len}
 use Rattle.hm_codec.proofs.GrammarLaws.{length-spelled}
 
 -- the fields take so many bytes at most

@@ -1,6 +1,5 @@
 -- The reader of packets.
-use Rattle.std.proofs.Common.{◌≡◌, ℕ, zero, suc, ◌+◌, ◌-◌, ◌<◌, ◌≤◌, Bool, true, false, cond, eqb, List, [], ◌∷◌, ◌++◌, length, Option, Some, None, Result, Ok, Err, refl, sym, ap, subst, ◌∙◌, append_assoc, arith}
-use Rattle.std.specs.Prelude.{nat_le}
+use Rattle.std.proofs.Common.{◌≡◌, ℕ, zero, suc, true, false, eqb, List, [], ◌∷◌, ◌++◌, length, Some, Result, Ok, Err, refl, sym, ap, subst, ◌∙◌, append_assoc, arith}
 use Rattle.std.proofs.lemmas.List.{append-nil}
 use Rattle.std.proofs.lemmas.Bool.Decides.{nat_tests}
 use Rattle.hm_base.specs.declared.node.Node.{Node}
@@ -9,12 +8,11 @@ use Rattle.hm_packet.specs.declared.body.Body.TheVariants as body
 use Rattle.hm_packet.specs.Messages.{Message}
 use Rattle.hm_codec.specs.declared.fault.Fault.{Fault}
 use Rattle.hm_codec.specs.declared.head.Head.{Head}
-use Rattle.hm_codec.specs.declared.malformed.Malformed.{Malformed}
 use Rattle.hm_codec.specs.declared.malformed.Reason.TheVariants as reason
 use Rattle.hm_codec.specs.Grammar.{Grammar, spell, fault, Leads, number}
 use Rattle.hm_codec.specs.Grammar.Size.{U8, U32, U64}
 use Rattle.hm_codec.specs.Grammar.Grammar.{ended, field}
-use Rattle.hm_codec.specs.Packets.{is_within, node_fields, stamp_fields, value_fields, answer_fields, page_fields, replica_field, members_fields, kinds, body_fields, packet_fields, node_numbers, body_numbers, code, numbers, spelling, first_fault, HasSpelling}
+use Rattle.hm_codec.specs.Packets.{is_within, node_fields, stamp_fields, value_fields, answer_fields, page_fields, replica_field, members_fields, body_fields, packet_fields, node_numbers, body_numbers, code, numbers, spelling, first_fault, HasSpelling}
 use Rattle.hm_codec.specs.Reading.{◌>>=◌, Part, field_at, node_at, as_body, body_at, whole, end_with, head_at, packet_of, read_at, write_at, put_at, fast_read_at, normal_read_at, done_at, reply_at, feed_at, feed_ack_at, ask_at, known_at, start_view_change_at, vote_at, pull_at, page_at, config_at, route_at, refuse_at, refused_at}
 use Rattle.hm_codec.proofs.GrammarLaws.{IsBytes}
 use Rattle.hm_codec.proofs.Readers.{placed, IsReader, Fills, fill_chain}

@@ -1,32 +1,27 @@
 -- The readers of the parts of packets.
-use Rattle.std.proofs.Common.{◌≡◌, ℕ, zero, suc, ◌+◌, ◌-◌, ◌<◌, ◌≤◌, Bool, true, false, cond, eqb, ltb, List, [], ◌∷◌, ◌++◌, length, take, drop, Option, Some, None, Result, Ok, Err, refl, sym, ap, subst, ◌∙◌, append_assoc, arith, inl, inr}
-use Rattle.std.specs.Prelude.{nat_lt, nat_le, nat_eq, flat_map}
-use Rattle.std.proofs.lemmas.Bool.{cases_lt, ltb-false, ltb-true, le-ltb, eqb-true}
+use Rattle.std.proofs.Common.{◌≡◌, ℕ, zero, suc, ◌+◌, ◌-◌, ◌<◌, ◌≤◌, Bool, true, false, cond, eqb, ltb, List, [], ◌∷◌, ◌++◌, length, take, drop, Option, Some, Result, Ok, Err, refl, sym, ap, subst, ◌∙◌, append_assoc, arith}
+use Rattle.std.specs.Prelude.{nat_le, flat_map}
+use Rattle.std.proofs.lemmas.Bool.{ltb-false, ltb-true}
 use Rattle.std.proofs.lemmas.Bool.Decides.{nat_tests}
-use Rattle.std.proofs.lemmas.List.{append-nil, take-append-drop, length-take, length-drop}
+use Rattle.std.proofs.lemmas.List.{take-append-drop, length-take}
 use Rattle.std.proofs.lemmas.List.Concat.{flat_map-cons}
 use Rattle.hm_base.specs.Padded.{max_value_len}
 use Rattle.hm_base.specs.Logs.{max_page_len}
-use Rattle.hm_base.specs.declared.node.Node.{Node}
 use Rattle.hm_base.specs.declared.node.Node.TheVariants as node
-use Rattle.hm_base.specs.declared.stamp.Stamp.{Stamp}
-use Rattle.hm_base.specs.declared.operation.Answer.{Answer}
 use Rattle.hm_base.specs.declared.operation.Answer.TheVariants.{Wrote, Nothing, Found}
 use Rattle.hm_base.specs.declared.entry.Entry.{Entry}
-use Rattle.hm_base.specs.declared.entry.Act.{Act}
 use Rattle.hm_base.specs.declared.entry.Act.TheVariants.{Put, Look}
 use Rattle.hm_codec.specs.declared.fault.Fault.{Fault}
 use Rattle.hm_codec.specs.declared.malformed.Malformed.{Malformed}
 use Rattle.hm_codec.specs.declared.malformed.Reason.{Reason}
 use Rattle.hm_codec.specs.declared.malformed.Reason.TheVariants as reason
-use Rattle.hm_codec.specs.Grammar.{Size, size, spelled, number_of, limit, Grammar, spell, fault, Leads, number}
+use Rattle.hm_codec.specs.Grammar.{Size, size, spelled, number_of, limit, Grammar, spell, fault, number}
 use Rattle.hm_codec.specs.Grammar.Size.{U8, U32, U64}
-use Rattle.hm_codec.specs.Grammar.Grammar.{ended, field}
-use Rattle.hm_codec.specs.Packets as packets
-use Rattle.hm_codec.specs.Packets.{is_within, may_be_node, node_fields, stamp_fields, run, value_fields, answer_fields, act_fields, entry_fields, many, page_fields, replica_field, rising, members_fields, node_numbers, stamp_numbers, value_numbers, answer_numbers, act_numbers, entry_numbers, page_numbers, members_numbers}
-use Rattle.hm_codec.specs.Reading.{◌>>=◌, Part, short, field_at, number_at, run_at, node_of, node_at, stamp_at, value_at, found, answer_of, answer_at, putting, act_of, act_at, entry_at, many_at, entries_at, rising_at, members_at}
-use Rattle.hm_codec.proofs.GrammarLaws.{IsBytes, bytes_drop, bytes_take, spelled_back, number-below, spell-nil, leads_then, spell_then, fault_then, fault_past}
-use Rattle.hm_codec.proofs.Readers.{bind_ok, placed, Reads, reads_nothing, reads_then, reads_pass, IsReader, Ends, reader_of, chain, finish, Fills}
+use Rattle.hm_codec.specs.Grammar.Grammar.{field}
+use Rattle.hm_codec.specs.Packets.{is_within, may_be_node, node_fields, stamp_fields, run, value_fields, answer_fields, act_fields, entry_fields, many, page_fields, rising, members_fields, node_numbers, stamp_numbers, value_numbers, answer_numbers, act_numbers, entry_numbers, page_numbers, members_numbers}
+use Rattle.hm_codec.specs.Reading.{◌>>=◌, Part, short, field_at, number_at, run_at, node_of, node_at, stamp_at, value_at, answer_of, answer_at, act_of, act_at, entry_at, many_at, entries_at, rising_at, members_at}
+use Rattle.hm_codec.proofs.GrammarLaws.{IsBytes, bytes_drop, bytes_take, spelled_back, number-below, fault_past}
+use Rattle.hm_codec.proofs.Readers.{bind_ok, placed, Reads, reads_nothing, IsReader, Ends, reader_of, chain, finish, Fills}
 
 -- ---- one number
 

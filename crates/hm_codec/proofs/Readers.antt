@@ -1,15 +1,12 @@
 -- What a reader of a part has to do with the part's fields, and how readers follow each other.
-use Rattle.std.proofs.Common.{◌≡◌, ℕ, zero, suc, ◌+◌, ◌-◌, ◌<◌, ◌≤◌, Bool, true, false, cond, ltb, List, [], ◌∷◌, ◌++◌, length, take, drop, Option, Some, None, Result, Ok, Err, refl, sym, ap, subst, ◌∙◌, append_assoc, arith, inl, inr}
-use Rattle.std.proofs.lemmas.Bool.{cases_lt, ltb-false, ltb-true, le-ltb}
-use Rattle.std.proofs.lemmas.List.{append-nil, take-append-drop, length-take}
+use Rattle.std.proofs.Common.{◌≡◌, ℕ, ◌-◌, List, [], ◌++◌, Some, Result, Ok, Err, refl, sym, ap, subst, ◌∙◌, append_assoc}
+use Rattle.std.proofs.lemmas.List.{append-nil}
 use Rattle.hm_codec.specs.declared.fault.Fault.{Fault}
 use Rattle.hm_codec.specs.declared.malformed.Malformed.{Malformed}
-use Rattle.hm_codec.specs.declared.malformed.Reason.{Reason}
-use Rattle.hm_codec.specs.declared.malformed.Reason.TheVariants.{Short}
-use Rattle.hm_codec.specs.Grammar.{Size, size, spelled, number_of, limit, Grammar, spell, fault, Leads, number}
+use Rattle.hm_codec.specs.Grammar.{Grammar, spell, fault, Leads}
 use Rattle.hm_codec.specs.Grammar.Grammar.{ended, field}
-use Rattle.hm_codec.specs.Reading.{◌>>=◌, Part, short, field_at, number_at}
-use Rattle.hm_codec.proofs.GrammarLaws.{IsBytes, bytes_drop, bytes_take, spelled_back, number-below, spell-nil, leads_then, spell_then, fault_then}
+use Rattle.hm_codec.specs.Reading.{◌>>=◌, Part}
+use Rattle.hm_codec.proofs.GrammarLaws.{IsBytes, spell-nil, leads_then, spell_then, fault_then}
 
 -- a fault of the last of so many bytes
 abbrev pub placed : ℕ → Fault → Malformed

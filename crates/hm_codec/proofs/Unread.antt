@@ -1,5 +1,5 @@
 -- A packet's numbers tell the packet.
-use Rattle.std.proofs.Common.{◌≡◌, ℕ, zero, suc, ◌+◌, List, [], ◌∷◌, ◌++◌, length, get_or, take, drop, cond, eqb, refl, sym, ap, subst, ◌∙◌, append_assoc, arith}
+use Rattle.std.proofs.Common.{◌≡◌, ℕ, zero, suc, List, [], ◌∷◌, ◌++◌, length, get_or, take, drop, cond, eqb, refl, sym, ap, ◌∙◌}
 use Rattle.std.specs.Prelude.{flat_map}
 use Rattle.std.proofs.lemmas.List.{append-nil, take_at, drop_at}
 use Rattle.std.proofs.lemmas.List.Concat.{flat_map-cons}
@@ -14,7 +14,6 @@ use Rattle.hm_base.specs.declared.entry.Act.TheVariants.{Put, Look}
 use Rattle.hm_packet.specs.declared.body.Body.{Body}
 use Rattle.hm_packet.specs.declared.body.Body.TheVariants as body
 use Rattle.hm_packet.specs.Messages.{Message}
-use Rattle.hm_codec.specs.Grammar.{spell}
 use Rattle.hm_codec.specs.Packets.{packet_fields, node_numbers, answer_numbers, act_numbers, entry_numbers, body_numbers, code, numbers, spelling, HasSpelling}
 use Rattle.hm_codec.proofs.GrammarLaws.{one_spelling}
 

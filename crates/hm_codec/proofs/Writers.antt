@@ -1,10 +1,9 @@
 -- What writing parts in a row adds.
-use Rattle.std.proofs.Common.{◌≡◌, ℕ, zero, suc, ◌+◌, ◌-◌, ◌*◌, ◌^◌, ◌<◌, ◌≤◌, Bool, true, false, cond, eqb, List, [], ◌∷◌, ◌++◌, length, get_or, take, drop, refl, sym, ap, subst, ◌∙◌, append_assoc, arith, drop-cons}
-use Rattle.std.specs.Prelude.{All, nat_le, slice_index, slice_index_or, flat_map}
+use Rattle.std.proofs.Common.{◌≡◌, ℕ, zero, suc, ◌+◌, ◌^◌, ◌<◌, ◌≤◌, Bool, true, cond, eqb, List, [], ◌∷◌, ◌++◌, length, get_or, drop, refl, sym, ap, subst, ◌∙◌, append_assoc, arith, drop-cons}
+use Rattle.std.specs.Prelude.{slice_index, flat_map}
 use Rattle.std.specs.List.Sorted.{IsStrictlyIncreasing}
 use Rattle.std.proofs.lemmas.Bool.Decides.{nat_tests}
 use Rattle.std.proofs.lemmas.List.{append-nil, length-append, drop_all}
-use Rattle.std.proofs.lemmas.List.Elements.{All-head, All-tail}
 use Rattle.std.proofs.lemmas.List.Concat.{flat_map-cons}
 use Rattle.hm_base.specs.Rising.{IsMembers}
 use Rattle.hm_base.specs.Padded.{max_value_len}
@@ -25,7 +24,7 @@ use Rattle.hm_codec.specs.Bounds.{max_len}
 use Rattle.hm_codec.specs.Grammar.{Size, Grammar, spell, spelled, limit, Leads, number}
 use Rattle.hm_codec.specs.Grammar.Size.{U8, U32, U64}
 use Rattle.hm_codec.specs.Grammar.Grammar.{ended, field}
-use Rattle.hm_codec.specs.Packets.{is_within, may_be_node, node_fields, stamp_fields, run, value_fields, answer_fields, act_fields, replica_field, entry_fields, many, page_fields, rising, members_fields, kinds, body_fields, packet_fields, node_numbers, stamp_numbers, value_numbers, act_numbers, entry_numbers, page_numbers, members_numbers, field_numbers, tail_numbers, body_numbers, code, numbers, spelling, HasSpelling, max_spelling_len}
+use Rattle.hm_codec.specs.Packets.{is_within, may_be_node, node_fields, stamp_fields, run, value_fields, answer_fields, act_fields, entry_fields, many, page_fields, rising, members_fields, body_fields, packet_fields, node_numbers, stamp_numbers, value_numbers, act_numbers, entry_numbers, page_numbers, members_numbers, field_numbers, tail_numbers, body_numbers, code, spelling, HasSpelling, max_spelling_len}
 use Rattle.hm_codec.specs.Writing.{Adds, Writes, TagsValue, field_fields, all_fields, tail_fields}
 use Rattle.hm_codec.proofs.GrammarLaws.{IsBytes, spell-nil, leads_then, spell_then}
 use Rattle.hm_codec.proofs.Lengths.{length-spelling}

@@ -1,5 +1,5 @@
 -- Packets on the wire: their fields, their numbers, and so their spelling and the first fault of bytes that are none.
-use Rattle.std.specs.Prelude.{ℕ, zero, suc, ◌+◌, ◌-◌, Bool, true, ◌&&◌, ◌==◌, nat_le, if◌then◌else◌, List, [], ◌∷◌, ◌++◌, length, get_or, map, flat_map, Option}
+use Rattle.std.specs.Prelude.{ℕ, zero, suc, ◌+◌, ◌-◌, Bool, true, ◌&&◌, ◌==◌, nat_le, if◌then◌else◌, List, [], ◌∷◌, ◌++◌, length, get_or, flat_map, Option}
 use Rattle.hm_base.specs.Padded.{max_value_len}
 use Rattle.hm_base.specs.Logs.{max_page_len}
 use Rattle.hm_base.specs.declared.node.Node.{Node}
@@ -18,7 +18,7 @@ use Rattle.hm_packet.specs.Fields.{fields, tail, Tail}
 use Rattle.hm_packet.specs.Messages.{Message}
 use Rattle.hm_codec.specs.declared.malformed.Malformed.{Malformed}
 use Rattle.hm_codec.specs.declared.malformed.Reason.TheVariants as reason
-use Rattle.hm_codec.specs.Grammar.{Size, Grammar, spell, fault, Leads, number}
+use Rattle.hm_codec.specs.Grammar.{Grammar, spell, fault, Leads, number}
 use Rattle.hm_codec.specs.Grammar.Size.{U8, U32, U64}
 use Rattle.hm_codec.specs.Grammar.Grammar.{ended, field}
 

@@ -1,5 +1,5 @@
 -- Reading packets from left to right, part by part: each part with the bytes after it, or a fault.
-use Rattle.std.specs.Prelude.{ℕ, zero, suc, ◌+◌, ◌-◌, min, ◌≡◌, Bool, true, ◌==◌, nat_lt, nat_le, if◌then◌else◌, List, [], ◌∷◌, ◌++◌, length, take, drop, Result, Ok, Err}
+use Rattle.std.specs.Prelude.{ℕ, zero, suc, ◌+◌, ◌-◌, min, ◌≡◌, Bool, ◌==◌, nat_lt, nat_le, if◌then◌else◌, List, [], ◌∷◌, ◌++◌, length, take, drop, Result, Ok, Err}
 use Rattle.hm_base.specs.Padded.{max_value_len}
 use Rattle.hm_base.specs.Logs.{max_page_len}
 use Rattle.hm_base.specs.declared.node.Node.{Node}

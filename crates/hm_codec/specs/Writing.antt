@@ -1,5 +1,5 @@
 -- What writing a part adds to a buffer.
-use Rattle.std.specs.Prelude.{◌≡◌, ℕ, ◌≤◌, List, [], ◌∷◌, ◌++◌, length, flat_map}
+use Rattle.std.specs.Prelude.{◌≡◌, ℕ, ◌≤◌, List, [], ◌∷◌, ◌++◌, length}
 use Rattle.hm_packet.specs.declared.field.Field.{Field}
 use Rattle.hm_packet.specs.declared.field.Field.TheVariants as value
 use Rattle.hm_packet.specs.Fields.{Tail}

@@ -419,8 +419,9 @@ fn assert_fault(rt: &impl Abort, bytes: &[u8], at: u32, reason: Reason) -> Resul
 /// Asserts a packet's spelling, its fault when cut after each byte, and its faults with each byte set to 255 in turn.
 fn assert_case(rt: &impl Abort, case: &Case) -> Result<(), Fail> {
     assert_spelled(rt, case.bytes)?;
-    for len in 0..case.bytes.len() {
-        assert_fault(rt, &case.bytes[..len], len as u32, Reason::Short)?;
+    let whole = u32::try_from(case.bytes.len()).ok().ok_or("few bytes")?;
+    for at in 0..whole {
+        assert_fault(rt, &case.bytes[..at as usize], at, Reason::Short)?;
     }
     for place in 0..case.bytes.len() {
         let buf = spoiled(case.bytes, place).ok_or("bytes")?;
