@@ -1,0 +1,67 @@
+use Rattle.std.proofs.Common.{◌≡◌, ◌<◌, ◌*◌, ◌^◌, ℕ, List, length, Some, None, sym, ap, ◌∙◌, subst, arith, rules, length-set}
+use Rattle.std.specs.Prelude.{◌==◌, if◌then◌else◌}
+use Rattle.hm_base.specs.Slots.{target, put}
+use Rattle.hm_dirtyset.specs.declared.slot.Slot.{Slot}
+use Rattle.hm_dirtyset.specs.Table.{Table, slots_in, slots_of, live_number, IsCrowd}
+use Rattle.hm_dirtyset.specs.Fields.{table_of}
+use Rattle.hm_dirtyset.proofs.Lives.{crowd, target_none}
+use Rattle.hm_dirtyset.proofs.Puts.{IsChosen, chosen_from, slots_before, chosen_few, chosen_within, wrote_put, wrote_number, wrote_single, wrote_placed}
+use Rattle.hm_dirtyset.proofs.dirty_set.DirtySet.put.Goals as goal
+
+pub returns-in_default-clause-crowd : goal.returns-in_default-clause-crowd
+returns-in_default-clause-crowd c =
+    let s = c.self.inside in
+    let none : target (slots_before s) s.point c.args.object ≡ None =
+    ap (λ (l : List Slot). target (slots_in s.stages s.bits l) s.point c.args.object) (sym c.deref.ensures.value) ∙ sym c.target.ensures ∙ c.in_default.is in
+    let parts = target_none (slots_before s) s.point c.args.object none in
+    subst (λ (t : Table). IsCrowd t c.args.object) c.self.view_is (crowd (table_of s) c.args.object c.self.invariant.single c.self.invariant.placed parts.live parts.free)
+
+pub slot_of-at-requires-clause-stage : goal.slot_of-at-requires-clause-stage
+slot_of-at-requires-clause-stage c =
+    let s = c.self.inside in
+    chosen_few s c.args.object c.in-Some.stage c.self.invariant (ap (λ (l : List Slot). target (slots_in s.stages s.bits l) s.point c.args.object) (sym c.deref.ensures.value) ∙ sym c.target.ensures ∙ c.in-Some.is)
+
+pub index_mut-requires : goal.index_mut-requires
+index_mut-requires c =
+    let s = c.self.inside in
+    let chosen : IsChosen s c.args.object c.in-Some.stage c.slot_of-at.result = chosen_from s c.deref.result.now c.target.result c.args.object c.in-Some.stage c.slot_of-at.result c.deref.ensures.value c.target.ensures c.in-Some.is c.slot_of-at.ensures.slot c.slot_of-at.ensures.within in
+    let within : c.slot_of-at.result < s.stages * 2 ^ s.bits = chosen_within s c.args.object c.in-Some.stage c.slot_of-at.result c.self.invariant chosen in
+    let all : length s.slots.items ≡ s.stages * 2 ^ s.bits = c.self.invariant.slots in
+    search rules
+
+pub move_back-requires : goal.move_back-requires
+move_back-requires c =
+    let s = c.self.inside in
+    let chosen : IsChosen s c.args.object c.in-Some.stage c.slot_of-at.result = chosen_from s c.deref.result.now c.target.result c.args.object c.in-Some.stage c.slot_of-at.result c.deref.ensures.value c.target.ensures c.in-Some.is c.slot_of-at.ensures.slot c.slot_of-at.ensures.within in
+    subst (λ (k : ℕ). c.slot_of-at.result < k) (sym c.self.invariant.linked) (chosen_within s c.args.object c.in-Some.stage c.slot_of-at.result c.self.invariant chosen)
+
+-- after the write
+chosen : (c : goal.After-self-2-1) → IsChosen c.self.inside c.args.object c.in-Some.stage c.slot_of-at.result
+chosen c = chosen_from c.self.inside c.deref.result.now c.target.result c.args.object c.in-Some.stage c.slot_of-at.result c.deref.ensures.value c.target.ensures c.in-Some.is c.slot_of-at.ensures.slot c.slot_of-at.ensures.within
+
+above : (c : goal.After-self-2-1) → c.self.inside.point < c.args.number
+above c = let point : c.self.inside.point ≡ c.args.self.now.point = ap (λ (t : Table). t.point) c.self.view_is in omega (arith, point, c.requires.above_point)
+
+pub invariant_of-self : goal.invariant_of-self
+invariant_of-self c =
+    let s = c.self.inside in
+    let h = c.self.invariant in
+    record {
+      some = h.some;
+      few = h.few;
+      bits = h.bits;
+      slots = length-set s.slots.items c.slot_of-at.result (record { object = c.args.object; number = c.args.number }) ∙ h.slots;
+      linked = c.move_back.ensures.cells ∙ h.linked;
+      single = wrote_single s c.args.object c.args.number c.in-Some.stage c.slot_of-at.result h (chosen c) (above c);
+      placed = wrote_placed s c.args.object c.args.number c.in-Some.stage c.slot_of-at.result h (chosen c) (above c);
+    }
+
+pub returns-clause-slots : goal.returns-clause-slots
+returns-clause-slots c =
+    wrote_put c.self.inside c.args.object c.args.number c.in-Some.stage c.slot_of-at.result c.self.invariant (chosen c) (above c)
+    ∙ ap (λ (t : Table). put (slots_of t) t.point c.args.object c.args.number) c.self.view_is
+
+pub returns-clause-numbers : goal.returns-clause-numbers
+returns-clause-numbers c = λ o.
+    wrote_number c.self.inside c.args.object c.args.number c.in-Some.stage c.slot_of-at.result c.self.invariant (chosen c) (above c) o
+    ∙ ap (λ (t : Table). if o == c.args.object then Some c.args.number else live_number t o) c.self.view_is

@@ -1,0 +1,3 @@
+mod Aparts
+pub mod Paths
+pub mod Rings

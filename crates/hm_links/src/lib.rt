@@ -1,0 +1,6 @@
+//! A doubly linked list of distinct indices, threaded through an array.
+#![tactic(auto)]
+
+pub mod links;
+#[cfg(test)]
+mod tests;

@@ -1,0 +1,4 @@
+pub mod State
+pub mod Fields
+pub mod StandsFor
+pub mod Faults
