@@ -1,3 +1,4 @@
 pub mod Adapters
 pub mod Ends
 pub mod Faults
+pub mod Frames
