@@ -1,3 +1,9 @@
 pub mod LogGrowth
-pub mod AloneSteps
-pub mod AloneEvents
+mod Members
+mod ChainParts
+mod ChainReads
+mod ChainRows
+mod ChainLater
+mod ChainGroups
+pub mod ChainEvents
+pub mod ChainRuns

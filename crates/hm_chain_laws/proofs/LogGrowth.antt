@@ -38,7 +38,7 @@ use Rattle.hm_chain_laws.specs.Kept.{KeepsLog}
 abbrev Keeps : Replica → Stepped → Type 0
 Keeps old s = KeepsLog old s.replica
 
-kept_same : (r : Replica) → r.staged ≡ None → KeepsLog r r
+pub kept_same : (r : Replica) → r.staged ≡ None → KeepsLog r r
 kept_same r n = record { me = refl; cap = refl; unstaged = n; log = prefix_same r.log }
 
 -- ---- parts of rows, at a replica that kept the log so far

@@ -1,5 +1,5 @@
 //! What holds of a chain after every schedule.
 #![tactic(auto)]
 
-pub mod alone;
+pub mod chain;
 pub mod growth;

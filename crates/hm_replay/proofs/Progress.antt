@@ -11,7 +11,7 @@ use Rattle.hm_base.specs.declared.node.GroupKind.TheVariants as kind
 use Rattle.hm_order.specs.Order.{order}
 use Rattle.hm_order.specs.Legal.{IsLegal}
 use Rattle.hm_order.proofs.Explained.{order_explains}
-use Rattle.hm_chain_laws.proofs.AloneEvents.{sound_run}
+use Rattle.hm_chain_laws.proofs.ChainRuns.{sound_run}
 use Rattle.hm_rules.specs.Events as rule
 use Rattle.hm_rules.specs.World.{World, opens}
 use Rattle.hm_rules.specs.Happens.{happens}
@@ -212,7 +212,7 @@ group_is kind.Vr size h = absurd h
 run_is_legal : (s : Schedule) → IsLawfulGroup s.kind s.size → IsLegal (history_in s) (order (history_in s))
 run_is_legal s h =
     let group = group_is s.kind s.size h in
-    let sound = sound_run (setup_in s) (events_in s) [] group.0 group.1 in
+    let sound = sound_run (setup_in s) (events_in s) [] group.0 in
     order_explains (history_in s) sound.core.agree.formed sound.core.agree.due
 
 -- where the input ends behind a line

@@ -1,5 +1,5 @@
 use Rattle.hm_order.proofs.Explained.{order_explains}
-use Rattle.hm_chain_laws.proofs.alone.sound_world_is_explained.Goals as goal
+use Rattle.hm_chain_laws.proofs.chain.sound_world_is_explained.Goals as goal
 
 pub returns-clause-formed : goal.returns-clause-formed
 returns-clause-formed c = λ w sound. sound.core.agree.formed

@@ -1,0 +1,91 @@
+-- What holds of a chain after every event, for all of its members at once: an earlier member's log begins with a later one's, a page
+-- in the net is part of the log of each member before the one that takes it, and the tail's log is the declared list (after van
+-- Renesse and Schneider, "Chain Replication").
+use Rattle.std.specs.Prelude.{◌≡◌, ℕ, ◌+◌, ◌<◌, ◌≤◌, ◌⊎◌, true, false, IsTrue, List, [], ◌∷◌, length, None, All}
+use Rattle.hm_base.specs.declared.entry.Entry.{Entry}
+use Rattle.hm_base.specs.declared.node.GroupKind.TheVariants.{Chain}
+use Rattle.hm_base.specs.Lists.{IsPrefix, IsSlice}
+use Rattle.hm_base.specs.Logs.{is_write}
+use Rattle.hm_packet.specs.declared.body.Body.{Body}
+use Rattle.hm_packet.specs.declared.body.Body.TheVariants as body
+use Rattle.hm_packet.specs.declared.body.Feed.{Feed}
+use Rattle.hm_packet.specs.Messages.{Message}
+use Rattle.hm_order.specs.Marks.{At}
+use Rattle.hm_rules.specs.Senders.{number}
+use Rattle.hm_rules.specs.Numbers.{stands_in}
+use Rattle.hm_rules.specs.Replica.{Replica}
+use Rattle.hm_rules.specs.Chain.{is_tail}
+use Rattle.hm_rules.specs.World.{World, is_stopped}
+use Rattle.hm_core_laws.specs.Core.{Core}
+
+-- ---- members
+
+abbrev pub HasMember : List ℕ → ℕ → Type 0
+HasMember members n = IsTrue (stands_in n members)
+
+-- each member is above those before it, and none is below `low`
+abbrev pub RiseFrom : ℕ → List ℕ → Type 0
+RiseFrom low [] = Unit {0}
+RiseFrom low (m ∷ ms) = (low ≤ m) × RiseFrom (m + 1) ms
+
+-- The members of each epoch so far, from epoch 0 on: they rise, and each is a replica's number. A later epoch has no member that an
+-- earlier one hasn't, a live replica is a member of each, and the service has those of the last.
+pub record EpochsHold (w : World) (epochs : List (List ℕ)) : Type 0 where
+  pub rise : (e : ℕ) (members : List ℕ) → At epochs e members → RiseFrom 0 members
+  pub below : (e : ℕ) (members : List ℕ) (i : ℕ) → At epochs e members → HasMember members i → i < length w.replicas
+  pub fewer : (e f : ℕ) (members later : List ℕ) (i : ℕ) → At epochs e members → At epochs f later → e ≤ f → HasMember later i → HasMember members i
+  pub live : (n : ℕ) (r : Replica) (e : ℕ) (members : List ℕ) → At w.replicas n r → is_stopped w n ≡ false → At epochs e members → HasMember members n
+  pub service : At epochs w.service.epoch w.service.members
+  pub count : length epochs ≡ w.service.epoch + 1
+
+-- ---- replicas
+
+abbrev pub AreWrites : List Entry → Type 0
+AreWrites log = All (λ (e : Entry). IsTrue (is_write e)) log
+
+-- The replica of this number has the members of its epoch, and its log of writes stands in front in that of each member before it.
+pub record MemberHolds (epochs : List (List ℕ)) (replicas : List Replica) (n : ℕ) (r : Replica) : Type 0 where
+  pub me : r.me ≡ n
+  pub unstaged : r.staged ≡ None
+  pub known : r.known ≤ length r.log
+  pub writes : AreWrites r.log
+  pub epoch : At epochs r.view r.members
+  pub nested : (i : ℕ) (earlier : Replica) → At replicas i earlier → HasMember r.members i → i < n → IsPrefix r.log earlier.log
+
+-- ---- packets
+
+-- the page is empty, or stands in the list from its first place on
+abbrev pub IsPageOf : ℕ → List Entry → List Entry → Type 0
+IsPageOf first entries log = (entries ≡ []) ⊎ IsSlice first entries log
+
+-- it was sent in one of the epochs, and is a page of the log of each member up to its sender
+pub record PageFits (epochs : List (List ℕ)) (replicas : List Replica) (from : ℕ) (feed : Feed) : Type 0 where
+  pub members : List ℕ
+  pub epoch : At epochs feed.view members
+  pub pages : (i : ℕ) (r : Replica) → At replicas i r → HasMember members i → i ≤ from → IsPageOf feed.first feed.entries r.log
+
+abbrev pub BodyFits : List (List ℕ) → List Replica → ℕ → Body → Type 0
+BodyFits epochs replicas from (body.Feed feed) = PageFits epochs replicas from feed
+BodyFits epochs replicas from (body.Config config) = At epochs config.view config.members
+BodyFits epochs replicas from other = Unit {0}
+
+abbrev pub Fits : List (List ℕ) → List Replica → Message → Type 0
+Fits epochs replicas m = BodyFits epochs replicas (number m.src) m.body
+
+-- ---- the chain
+
+pub record ChainHolds (w : World) : Type 0 where
+  pub kind : w.setup.kind ≡ Chain
+  pub epochs : List (List ℕ)
+  pub groups : EpochsHold w epochs
+  pub members : (n : ℕ) (r : Replica) → At w.replicas n r → MemberHolds epochs w.replicas n r
+  pub packets : All (Fits epochs w.replicas) w.net
+  -- each live log begins with the declared list
+  pub prefix : (n : ℕ) (r : Replica) → At w.replicas n r → is_stopped w n ≡ false → IsPrefix w.declared r.log
+  -- a live tail holds the declared list
+  pub tail : (n : ℕ) (r : Replica) → At w.replicas n r → is_stopped w n ≡ false → is_tail r ≡ true → r.log ≡ w.declared
+
+-- what every event keeps
+pub record IsSound (w : World) : Type 0 where
+  pub core : Core w
+  pub chain : ChainHolds w
