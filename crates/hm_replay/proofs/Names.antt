@@ -36,13 +36,14 @@ word_of_next : IsWord (codes "next")
 word_of_next = word_from_visible (codes "next") (All-from_recursion IsVisible (codes "next") (lit< tt, (lit< tt, (lit< tt, (lit< tt, tt)))))
 
 -- an event's first word is one of three
-pub no_event : (bytes name fields : List ℕ) → SplitsWord bytes name fields → (name ≡ codes "write" → ⊥) → (name ≡ codes "read" → ⊥) → (name ≡ codes "next" → ⊥) → (e : Event) → bytes ≡ event_text e → ⊥
-no_event bytes name fields split write read next (event.Write client object value switch) same =
+pub no_event : (bytes name fields : List ℕ) → SplitsWord bytes name fields → (name ≡ codes "write" → ⊥) → (name ≡ codes "read" → ⊥) → (name ≡ codes "next" → ⊥) → (e : Event) → IsLawfulEvent e → bytes ≡ event_text e → ⊥
+no_event bytes name fields split write read next (event.Write client object value switch) lawful same =
     write (one_split name (codes "write") fields _ split.whole split.ends word_of_write refl (sym split.parts ∙ same)).0
-no_event bytes name fields split write read next (event.Read client object switch) same =
+no_event bytes name fields split write read next (event.Read client object switch) lawful same =
     read (one_split name (codes "read") fields _ split.whole split.ends word_of_read refl (sym split.parts ∙ same)).0
-no_event bytes name fields split write read next event.Next same =
+no_event bytes name fields split write read next event.Next lawful same =
     next (one_split name (codes "next") fields [] split.whole split.ends word_of_next tt (sym split.parts ∙ same ∙ sym (append-nil (codes "next")))).0
+no_event bytes name fields split write read next other lawful same = lawful
 
 -- the line of a chain of one
 pub group_line : codes "group chain 1" ≡ line_text (line.Group kind.Chain 1)

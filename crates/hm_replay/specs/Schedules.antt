@@ -18,7 +18,13 @@ kind_text kind.Vr = codes "vr"
 abbrev pub event_words : Event → List (List ℕ)
 event_words (event.Write client object value switch) = codes "write" ∷ decimal client ∷ decimal object ∷ value_text value ∷ decimal switch ∷ []
 event_words (event.Read client object switch) = codes "read" ∷ decimal client ∷ decimal object ∷ decimal switch ∷ []
+event_words (event.Resend client switch) = codes "resend" ∷ decimal client ∷ decimal switch ∷ []
+event_words (event.Deliver packet) = codes "deliver" ∷ decimal packet ∷ []
 event_words event.Next = codes "next" ∷ []
+event_words event.Drop = codes "drop" ∷ []
+event_words (event.Tick replica) = codes "tick" ∷ decimal replica ∷ []
+event_words (event.Stop replica) = codes "stop" ∷ decimal replica ∷ []
+event_words (event.Remove replica) = codes "remove" ∷ decimal replica ∷ []
 
 abbrev pub line_words : Line → List (List ℕ)
 line_words (line.Group kind size) = codes "group" ∷ kind_text kind ∷ decimal size ∷ []
@@ -42,11 +48,12 @@ pub record IsRead (client object switch : ℕ) : Type 0 where
   pub of_object : object < 2 ^ 32
   pub of_switch : IsSwitch switch
 
--- an event's fields are within their ranges
+-- an event's fields are within their ranges; other events are read in no schedule yet
 abbrev pub IsLawfulEvent : Event → Type 0
 IsLawfulEvent (event.Write client object value switch) = IsWrite client object value switch
 IsLawfulEvent (event.Read client object switch) = IsRead client object switch
 IsLawfulEvent event.Next = Unit {0}
+IsLawfulEvent other = ⊥
 
 -- a chain of one
 abbrev pub IsLawfulGroup : GroupKind → ℕ → Type 0

@@ -7,4 +7,4 @@ returns-else-eq-3-clause-only c event lawful same =
     (differs _ _ _ _ c.as_slice.ensures c.eq.ensures c.if-eq.false)
     (differs _ _ _ _ c.as_slice-else-eq.ensures c.eq-else-eq.ensures c.if-eq-2.false)
     (differs _ _ _ _ c.as_slice-else-eq-2.ensures c.eq-else-eq-2.ensures c.if-eq-3.false)
-    event same)
+    event lawful same)

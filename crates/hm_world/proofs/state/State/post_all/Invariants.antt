@@ -1,6 +1,6 @@
 use Rattle.std.proofs.Common.{◌≡◌, ◌+◌, ◌≤◌, take}
 use Rattle.hm_rules.specs.World.{posts}
-use Rattle.hm_world.proofs.world.World.post_all.Given as goal
+use Rattle.hm_world.proofs.state.State.post_all.Given as goal
 
 abbrev pub invariant-loop-i : goal.invariant-loop-i
 invariant-loop-i l = record {
