@@ -1,4 +1,4 @@
-ghost use Rattle.std.specs.Prelude.{◌≡◌, ◌<◌, ◌≤◌, ◌⊎◌, ◌%◌, length, slice_index, is_some, Some, None, IfOk, OnOk, IfErr};
+ghost use Rattle.std.specs.Prelude.{◌≡◌, ◌<◌, ◌≤◌, ◌⊎◌, ◌%◌, if◌then◌else◌, length, slice_index, is_some, Some, None, IfOk, OnOk, IfErr};
 ghost use Rattle.hm_base.specs.Slots.{no_slots, is_full};
 ghost use Rattle.hm_packet.specs.Messages.{IsLawfulNode};
 ghost use Rattle.hm_rules.specs.Senders.{same_node};
@@ -103,13 +103,17 @@ impl Switch {
         self.dirty.point() > 0
     }
 
-    /// Its last committed point, 0 before its first own completion.
-    pub fn stamp(&self) -> Stamp
-        ensures { (s : AbstractSwitch) → StandsFor self.now s → result ≡ rule.own_stamp s s.point }
+    /// Its number and its last committed point. None exactly before its first own completion.
+    pub fn stamp(&self) -> Option<Stamp>
+        ensures { (s : AbstractSwitch) → StandsFor self.now s → result ≡ (if rule.is_active s then Some (rule.own_stamp s s.point) else None) }
     {
-        Stamp {
-            switch: self.id,
-            seq: self.dirty.point(),
+        if self.active() {
+            Some(Stamp {
+                switch: self.id,
+                seq: self.dirty.point(),
+            })
+        } else {
+            None
         }
     }
 

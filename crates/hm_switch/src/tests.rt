@@ -116,7 +116,7 @@ fn numbers_writes_and_stamps_reads(rt: HostRuntime) -> Result<(), Fail> {
     assert!(rt; switch.dirty(5) && !switch.active());
     assert!(rt; matches!(sent(switch.step(&done(1, 1)))?, Body::Reply(_)));
     assert!(rt; switch.active() && !switch.dirty(5));
-    assert_eq!(rt; switch.stamp(), Stamp { switch: 1, seq: 1 });
+    assert_eq!(rt; switch.stamp(), Some(Stamp { switch: 1, seq: 1 }));
     let Body::FastRead(fast) = sent(switch.step(&read(5)))? else {
         return Err("not stamped")?;
     };
