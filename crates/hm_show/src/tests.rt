@@ -1,6 +1,7 @@
-use crate::show::{Shown, show};
+use crate::show::{MAX_FRAMES, Shown, show};
 use hm_codec::malformed::{Malformed, Reason};
 use hm_frame::memory::{MemorySink, MemorySource};
+use hm_frame::outside::{Failed, Source};
 use hm_frame::sure::{SureSink, SureSource};
 use std::alloc::Global;
 use std::test::Fail;
@@ -63,5 +64,47 @@ fn never_fails_over_sure_ends(rt: HostRuntime) -> Result<(), Fail> {
     let mut source = SureSource::new(READ_FRAME.to_vec(rt.alloc())?);
     let shown = show(rt.alloc(), &mut source, &mut SureSink::new());
     assert_eq!(rt; shown, Shown::Done);
+    Ok(())
+}
+
+/// A source that gives the frame so many times, in pieces of whole frames.
+struct Repeated {
+    times: usize,
+}
+
+impl Drop for Repeated {
+    fn drop(self) {
+        let Repeated { times: _ } = self;
+    }
+}
+
+impl Source for Repeated {
+    ghost use Rattle.std.specs.Prelude.{None};
+
+    ghost left = { λ _. None };
+
+    ghost faults = { λ _. 0 };
+
+    fn take(&mut self, buf: &mut [u8]) -> Result<usize, Failed> {
+        let frames = self.times.min(buf.len() / READ_FRAME.len());
+        for frame in 0..frames {
+            let start = frame * READ_FRAME.len();
+            buf[start..start + READ_FRAME.len()].copy_from_slice(&READ_FRAME);
+        }
+        self.times -= frames;
+        Ok(frames * READ_FRAME.len())
+    }
+}
+
+#[test]
+fn stops_behind_the_last_frame(rt: HostRuntime) -> Result<(), Fail> {
+    let mut source = Repeated {
+        times: MAX_FRAMES as usize + 1,
+    };
+    let mut sink = MemorySink::open(rt.alloc(), 40_000_000, Vec::new(rt.alloc()))?;
+    let shown = show(rt.alloc(), &mut source, &mut sink);
+    let number = MAX_FRAMES + 1;
+    assert_eq!(rt; shown, Shown::TooLong { number });
+    assert!(rt; sink.as_slice().ends_with(b"\ntoolong 1048577\n"));
     Ok(())
 }
