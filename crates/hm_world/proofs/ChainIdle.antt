@@ -1,6 +1,6 @@
 -- A chain member that takes no notice of a packet, or has no room for it, stays as it is: one lemma for each row of its table.
-use Rattle.std.proofs.Common.{◌≡◌, ◌≢◌, ℕ, ◌+◌, Bool, List, [], ◌∷◌, ◌++◌, length, Option, Some, None, refl, sym}
-use Rattle.std.specs.Prelude.{max, not, ◌||◌, ◌==◌, if◌then◌else◌, nat_lt, nat_le, slice_get}
+use Rattle.std.proofs.Common.{◌≡◌, ◌≢◌, ℕ, Bool, [], ◌∷◌, ◌++◌, Option, Some, None, refl}
+use Rattle.std.specs.Prelude.{not, ◌||◌, ◌==◌, if◌then◌else◌, nat_lt, nat_le, slice_get}
 use Rattle.std.specs.List.{list_any}
 use Rattle.std.proofs.lemmas.Bool.{cond_both}
 use Rattle.hm_base.specs.declared.stamp.Stamp.{Stamp}
@@ -11,12 +11,10 @@ use Rattle.hm_base.specs.declared.verdict.Admit.{Admit}
 use Rattle.hm_base.specs.declared.verdict.Admit.TheVariants as admit
 use Rattle.hm_base.specs.declared.verdict.Verdict.{Verdict}
 use Rattle.hm_base.specs.declared.verdict.Verdict.TheVariants as verdict
-use Rattle.hm_base.specs.declared.why.Why.{Why}
 use Rattle.hm_base.specs.declared.why.Why.TheVariants as why
 use Rattle.hm_base.specs.Logs.{is_write, latest, read_ahead}
 use Rattle.hm_base.specs.Verdicts.{judge, admission}
 use Rattle.hm_base.specs.Taking.{Took, Taken, take_page}
-use Rattle.hm_packet.specs.declared.acted.Did.{Did}
 use Rattle.hm_packet.specs.declared.acted.Did.TheVariants as did
 use Rattle.hm_packet.specs.declared.body.Body.{Body}
 use Rattle.hm_packet.specs.declared.body.Body.TheVariants as body
@@ -30,9 +28,9 @@ use Rattle.hm_packet.specs.declared.body.Config.{Config}
 use Rattle.hm_packet.specs.declared.body.Refuse.{Refuse}
 use Rattle.hm_packet.specs.Messages.{Message}
 use Rattle.hm_rules.specs.Senders.{same_node, number}
-use Rattle.hm_rules.specs.Replica.{Replica, len, acked_by, first_member, last_member, with_acked, none_acked}
-use Rattle.hm_rules.specs.ReplicaSteps.{Stepped, ignored, log_full, sends, sends_first, to, done_of, read_reply, ack_to, done_if_any, declares, appends, entry_of, answers_again, admits, takes_put, as_normal, stamped_read, on_took, with_taken, last_number, on_refuse, is_foreign}
-use Rattle.hm_rules.specs.Chain.{is_head, is_tail, successor, predecessor, is_number, passes_on, chain_grew, chain_again, chain_put, chain_normal_read, chain_fast_read, chain_took, chain_taken, chain_feed, chain_feed_ack, chain_asked, chain_ask, chain_configured, chain_config, chain_takes, chain_row, chain_step}
+use Rattle.hm_rules.specs.Replica.{Replica, len, acked_by, first_member, last_member, none_acked}
+use Rattle.hm_rules.specs.ReplicaSteps.{Stepped, ignored, log_full, sends, sends_first, to, done_of, read_reply, ack_to, done_if_any, declares, appends, entry_of, answers_again, admits, takes_put, as_normal, stamped_read, on_took, with_taken, last_of, last_number, on_refuse, is_foreign}
+use Rattle.hm_rules.specs.Chain.{is_head, is_tail, successor, predecessor, is_number, passes_on, chain_grew, chain_again, chain_put, chain_normal_read, chain_took, chain_taken, chain_feed, chain_feed_ack, chain_asked, chain_ask, chain_configured, chain_config, chain_takes, chain_row, chain_step, chain_tick, is_behind}
 
 -- the step changed nothing, or it was done
 abbrev Idle : Replica → Stepped → Type 0
@@ -129,3 +127,7 @@ module _ (r : Replica) where
       cond_both (not (same_node m.dst (node.Replica r.me))) (ignored r why.NotForMe) _ (Idle r) (λ t x. refl)
       (λ f. cond_both (not (chain_takes m.body)) (ignored r why.Kind) _ (Idle r) (λ t x. refl)
       (λ g. cond_both (is_foreign r m) (ignored r why.Foreign) (chain_row r (number m.src) m.body) (Idle r) (λ t x. refl) (λ t. idle_row (number m.src) m.body)))
+
+  -- what it does from time to time is always done
+  pub tick_idle : (chain_tick r).did ≢ did.Done → (chain_tick r).replica ≡ r
+  tick_idle = cond_both (is_tail r) (sends r (done_if_any r (last_of r.log))) (sends r (if is_behind r (successor r) then passes_on r else [])) (Idle r) (λ t ne. refl) (λ t ne. refl)

@@ -1,13 +1,12 @@
 -- How the declared list and its marks grow.
-use Rattle.std.proofs.Common.{◌≡◌, ℕ, ◌+◌, ◌-◌, ◌<◌, ◌≤◌, List, [], ◌∷◌, ◌++◌, length, take, drop, map, refl, sym, ap, subst, ◌∙◌, append_assoc, arith, true, false, inl, inr}
-use Rattle.std.specs.Prelude.{nat_lt, cond, min}
-use Rattle.std.proofs.lemmas.Bool.{cases_Bool, cond-true, cond-false, lt-ltb, le-ltb, cases_lt}
+use Rattle.std.proofs.Common.{◌≡◌, ℕ, ◌+◌, ◌-◌, ◌<◌, ◌≤◌, List, [], ◌∷◌, ◌++◌, length, take, drop, map, sym, ap, ◌∙◌, arith, inl, inr}
+use Rattle.std.specs.Prelude.{nat_lt, min}
+use Rattle.std.proofs.lemmas.Bool.{cond-true, cond-false, lt-ltb, le-ltb, cases_lt}
 use Rattle.std.proofs.lemmas.List.Elements.{filter-append}
-use Rattle.std.proofs.lemmas.List.{map-append, length-append, append-nil, take_all, length-take, take_min}
+use Rattle.std.proofs.lemmas.List.{map-append, take_all, length-take, take_min}
 use Rattle.std.proofs.Math.Seq.{drop-append_seam, take-add}
 use Rattle.hm_base.specs.declared.entry.Entry.{Entry}
 use Rattle.hm_base.specs.Logs.{is_write, writes}
-use Rattle.hm_order.specs.declared.mark.Mark.{Mark}
 use Rattle.hm_rules.specs.Declared.{declared_after, commits_since, commit_of}
 
 -- the marks of more entries

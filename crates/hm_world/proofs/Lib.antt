@@ -2,5 +2,10 @@ pub mod ClientLemmas
 pub mod SwitchLemmas
 pub mod DeclareLemmas
 pub mod EventLemmas
+pub mod ReplicaLemmas
+pub mod LiveLemmas
+pub mod ServiceLemmas
 pub mod ChainIdle
 pub mod SetupLemmas
+pub mod OpenLemmas
+pub mod SoundLemmas

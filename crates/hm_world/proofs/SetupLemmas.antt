@@ -1,7 +1,7 @@
 -- What a lawful setup is.
-use Rattle.std.proofs.Common.{◌≡◌, ℕ, ◌≤◌, Bool, true, false, Option, Some, None, refl, sym, ◌∙◌}
-use Rattle.std.specs.Prelude.{nat_eq, nat_le, not, ◌&&◌, if◌then◌else◌}
-use Rattle.std.proofs.lemmas.Bool.{cond_both, and_parts, eqb-true, leb-true, false≢true}
+use Rattle.std.proofs.Common.{◌≡◌, ◌≤◌, Bool, true, false, Option, Some, None, refl, sym}
+use Rattle.std.specs.Prelude.{nat_le, not, ◌&&◌}
+use Rattle.std.proofs.lemmas.Bool.{cond_both, and_parts, leb-true, false≢true}
 use Rattle.std.proofs.lemmas.Option.{none-some}
 use Rattle.hm_base.specs.declared.node.GroupKind.{GroupKind}
 use Rattle.hm_base.specs.declared.node.GroupKind.TheVariants as kind
@@ -12,7 +12,8 @@ use Rattle.hm_world.specs.Setups.{is_chain, is_group, setup_fault}
 
 pub record IsLawful (s : Setup) : Type 0 where
   pub kind : s.kind ≡ kind.Chain
-  pub size : s.size ≡ 1
+  pub some : 1 ≤ s.size
+  pub few : s.size ≤ 7
   pub cap : s.cap ≤ 16384
 
 chain_is : (k : GroupKind) → is_chain k ≡ true → k ≡ kind.Chain
@@ -35,6 +36,7 @@ lawful s =
     (λ bits. cond_both (not (nat_le 1 s.life && nat_le s.life 4194304)) (Some fault.Life) _ (Lawful s) (λ t e. absurd (none-some fault.Life (sym e)))
     (λ life. cond_both (not (nat_le 1 s.cap && nat_le s.cap 16384)) (Some fault.Cap) None (Lawful s) (λ t e. absurd (none-some fault.Cap (sym e)))
     (λ cap e.
-    let of_group = and_parts (is_chain s.kind) (nat_eq s.size 1) (kept _ group) in
+    let of_group = and_parts (is_chain s.kind) (nat_le 1 s.size && nat_le s.size 7) (kept _ group) in
+    let of_size = and_parts (nat_le 1 s.size) (nat_le s.size 7) of_group.1 in
     let of_cap = and_parts (nat_le 1 s.cap) (nat_le s.cap 16384) (kept _ cap) in
-    record { kind = chain_is s.kind of_group.0; size = eqb-true s.size 1 of_group.1; cap = leb-true s.cap 16384 of_cap.1 })))))
+    record { kind = chain_is s.kind of_group.0; some = leb-true 1 s.size of_size.0; few = leb-true s.size 7 of_size.1; cap = leb-true s.cap 16384 of_cap.1 })))))

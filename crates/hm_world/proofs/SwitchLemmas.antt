@@ -1,14 +1,13 @@
 -- What a packet leaves of a switch.
-use Rattle.std.proofs.Common.{◌≡◌, ℕ, ◌+◌, ◌-◌, ◌≤◌, ◌<◌, Bool, true, false, cond, List, [], ◌∷◌, Option, Some, None, refl, sym, ap, ◌∙◌, arith, suc, zero}
-use Rattle.std.specs.Prelude.{slice_get, ◌==◌, ◌||◌, ◌&&◌, not, if◌then◌else◌, nat_eq, nat_lt, nat_le, length}
+use Rattle.std.proofs.Common.{◌≡◌, ℕ, ◌+◌, ◌≤◌, false, [], ◌∷◌, None, refl, arith, suc, zero}
+use Rattle.std.specs.Prelude.{slice_get, ◌==◌, ◌||◌, ◌&&◌, not, nat_lt, nat_le, length}
 use Rattle.std.proofs.lemmas.Bool.{cond_both}
-use Rattle.hm_base.specs.declared.node.Node.{Node}
 use Rattle.hm_base.specs.declared.node.Node.TheVariants as node
 use Rattle.hm_packet.specs.declared.body.Body.{Body}
 use Rattle.hm_packet.specs.declared.body.Body.TheVariants as body
 use Rattle.hm_packet.specs.Messages.{Message}
 use Rattle.hm_rules.specs.Senders.{same_node, may_send, number}
-use Rattle.hm_rules.specs.Switch.{AbstractSwitch, Turned, is_active, is_dirty, switch_takes, on_read, on_write, on_done, on_route, on_body, on_packet, switch_step}
+use Rattle.hm_rules.specs.Switch.{AbstractSwitch, Turned, is_active, is_dirty, switch_takes, on_body, on_packet, switch_step}
 
 -- the count of packets stays
 abbrev Keeps : AbstractSwitch → Turned → Type 0

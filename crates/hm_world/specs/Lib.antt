@@ -2,8 +2,10 @@ pub mod SwitchFields
 pub mod Declares
 pub mod Setups
 pub mod Clients
+pub mod StateFields
 pub mod WorldFields
 pub mod Begun
+pub mod Settled
 pub use Rattle.hm_rules.specs.World
 pub use Rattle.hm_rules.specs.Happens
 pub use Rattle.hm_rules.specs.Events

@@ -1,5 +1,5 @@
 -- The rules' setups and events for those of the code, and which setups a world can be opened with.
-use Rattle.std.specs.Prelude.{ℕ, Bool, true, false, not, ◌&&◌, ◌==◌, nat_le, if◌then◌else◌, Option, Some, None}
+use Rattle.std.specs.Prelude.{Bool, true, false, not, ◌&&◌, nat_le, if◌then◌else◌, Option, Some, None}
 use Rattle.hm_base.specs.declared.node.GroupKind.{GroupKind}
 use Rattle.hm_base.specs.declared.node.GroupKind.TheVariants as kind
 use Rattle.hm_rules.specs.Events as rule
@@ -15,16 +15,22 @@ setup_of s = record { kind = s.kind; size = s.size; stages = s.stages; bits = s.
 abbrev pub event_of : Event → rule.Event
 event_of (event.Write client object value switch) = rule.Event.Write client object value switch
 event_of (event.Read client object switch) = rule.Event.Read client object switch
+event_of (event.Resend client switch) = rule.Event.Resend client switch
+event_of (event.Deliver packet) = rule.Event.Deliver packet
 event_of event.Next = rule.Event.Next
+event_of event.Drop = rule.Event.Drop
+event_of (event.Tick replica) = rule.Event.Tick replica
+event_of (event.Stop replica) = rule.Event.Stop replica
+event_of (event.Remove replica) = rule.Event.Remove replica
 
--- the groups that are built so far: a chain of one
+-- the groups that are built so far: chains
 abbrev pub is_chain : GroupKind → Bool
 is_chain kind.Chain = true
 is_chain kind.Primary = false
 is_chain kind.Vr = false
 
 abbrev pub is_group : Setup → Bool
-is_group s = is_chain s.kind && (s.size == 1)
+is_group s = is_chain s.kind && (nat_le 1 s.size && nat_le s.size 7)
 
 -- the first part of a setup that is out of its range, if any is
 abbrev pub setup_fault : Setup → Option WorldFault

@@ -1,5 +1,5 @@
 -- What holds of a switch's fields.
-use Rattle.std.specs.Prelude.{ℕ, ◌≤◌, length, vec_capacity}
+use Rattle.std.specs.Prelude.{◌≤◌, length, vec_capacity}
 use Rattle.hm_rules.specs.Switch.{AbstractSwitch}
 use Rattle.hm_world.specs.declared.node_switch.Switch.TheInside.{Inside}
 

@@ -32,6 +32,29 @@ pub enum Event {
         object: u32,
         switch: u32,
     },
+    /// A client sends its outstanding request once more, to a switch.
+    Resend {
+        client: u32,
+        switch: u32,
+    },
+    /// The packet of this number arrives, counted from 1, whether or not it did before.
+    Deliver {
+        packet: u32,
+    },
     /// The packet at the cursor arrives.
     Next,
+    /// The cursor passes over a packet, which doesn't arrive.
+    Drop,
+    /// A replica's clock ticks.
+    Tick {
+        replica: u8,
+    },
+    /// A replica stops for good.
+    Stop {
+        replica: u8,
+    },
+    /// A stopped member is removed from the group.
+    Remove {
+        replica: u8,
+    },
 }

@@ -1,7 +1,13 @@
 ghost use Rattle.std.specs.Prelude.{◌≡◌};
+ghost use Rattle.hm_world.specs.Settled as settled;
+ghost use Rattle.hm_world.specs.Setups as setups;
 ghost use Rattle.hm_world.specs.declared.fault.WorldFault.TheVariants as fault;
 
+use crate::event::Setup;
 use hm_base::memory::NoMemory;
+use hm_base::node::GroupKind;
+use hm_packet::outcome::Bar;
+use hm_reconfig::fault::RemoveFault;
 use std::alloc::AllocError;
 use thiserror::Error;
 
@@ -35,5 +41,35 @@ impl From<AllocError> for WorldFault {
 
     fn from(_failed: AllocError) -> WorldFault {
         WorldFault::NoMemory
+    }
+}
+
+/// The first part of a setup that is out of its range, if any is.
+pub(crate) fn fault_of(setup: &Setup) -> Option<WorldFault>
+    ensures { result ≡ setups.setup_fault setup.now }
+{
+    if setup.kind != GroupKind::Chain || setup.size < 1 || setup.size > 7 {
+        Some(WorldFault::Group)
+    } else if setup.stages < 1 || setup.stages > 4 {
+        Some(WorldFault::Stages)
+    } else if setup.bits > 12 {
+        Some(WorldFault::Bits)
+    } else if setup.life < 1 || setup.life > 4_194_304 {
+        Some(WorldFault::Life)
+    } else if setup.cap < 1 || setup.cap > 16_384 {
+        Some(WorldFault::Cap)
+    } else {
+        None
+    }
+}
+
+/// The bar of a removal that the service refuses.
+pub(crate) fn bar_of(fault: RemoveFault) -> Bar
+    ensures { result ≡ settled.removal_bar fault }
+{
+    match fault {
+        RemoveFault::Fixed => Bar::Fixed,
+        RemoveFault::NotMember => Bar::Member,
+        RemoveFault::Last => Bar::Last,
     }
 }

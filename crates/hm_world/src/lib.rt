@@ -6,4 +6,8 @@ mod declared;
 pub mod event;
 pub mod fault;
 mod node_switch;
+mod nodes;
+mod state;
+#[cfg(test)]
+mod tests;
 pub mod world;

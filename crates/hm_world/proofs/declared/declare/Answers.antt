@@ -1,4 +1,4 @@
-use Rattle.std.proofs.Common.{◌≡◌, ℕ, ◌<◌, ◌≤◌, List, ◌++◌, length, take, drop, ap, sym, subst, ◌∙◌, arith, rules}
+use Rattle.std.proofs.Common.{◌≡◌, ℕ, ◌<◌, ◌≤◌, List, ◌++◌, length, take, drop, ap, ◌∙◌, arith, rules}
 use Rattle.std.specs.Prelude.{min, vec_len}
 use Rattle.hm_base.specs.declared.entry.Entry.{Entry}
 use Rattle.hm_world.proofs.DeclareLemmas.{front-length, declared-longer}
