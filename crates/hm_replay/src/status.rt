@@ -1,6 +1,6 @@
 ghost use Rattle.std.specs.Prelude.{◌≡◌};
 
-use crate::schedule::LineReason;
+use hm_schedule::line::LineReason;
 
 /// How a run ended. Lines are numbered from 1.
 #[derive(Clone, Copy, Debug, PartialEq, Eq)]
