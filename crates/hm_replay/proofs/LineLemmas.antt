@@ -85,6 +85,7 @@ visible_words (line.Event (event.Read client object switch)) lawful = (
   (visible_number client lawful.of_client, (visible_number object lawful.of_object, (visible_number switch lawful.of_switch.fits, tt))),
 )
 visible_words (line.Event event.Next) lawful = (All-from_recursion IsVisible (codes "next") (lit< tt, (lit< tt, (lit< tt, (lit< tt, tt)))), tt)
+visible_words (line.Event other) lawful = absurd lawful
 
 -- a lawful line has no end of a line in it
 pub lawful_line : (l : Line) → IsLawful l → IsLine (line_text l)
@@ -120,6 +121,7 @@ lawful_len (line.Event (event.Read client object switch)) lawful =
     let e : length (decimal switch) ≤ 10 = number_len switch lawful.of_switch.fits in
     omega (arith, length-append (codes "read") (spaced (decimal client ∷ decimal object ∷ decimal switch ∷ [])), length-spaced (decimal client) (decimal object ∷ decimal switch ∷ []), length-spaced (decimal object) (decimal switch ∷ []), length-spaced (decimal switch) [])
 lawful_len (line.Event event.Next) lawful = lit≤ tt
+lawful_len (line.Event other) lawful = absurd lawful
 
 -- ---- what stands at the front of the bytes that a source tells
 
