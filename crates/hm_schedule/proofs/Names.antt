@@ -7,10 +7,10 @@ use Rattle.std.proofs.lemmas.Bool.Decides.{Decides-eqb}
 use Rattle.std.proofs.lemmas.Slice.Eq.{slice_eq-Decides, bytes_eq-Decides}
 use Rattle.std.proofs.lemmas.List.Elements.{All-from_recursion}
 use Rattle.std.proofs.lemmas.Option.{same_Some}
-use Rattle.hm_base.specs.Spellings.{spaced, joined}
+use Rattle.hm_base.specs.Spellings.{spaced}
 use Rattle.hm_schedule.specs.LineWords.{IsWord, IsWordEnd, SplitsWord}
 use Rattle.hm_schedule.specs.Names.{keyword_text, rarely_named, named}
-use Rattle.hm_schedule.specs.Schedules.{IsLawful, keyword_in, field_words, line_text}
+use Rattle.hm_schedule.specs.Schedules.{keyword_in, field_words, line_text}
 use Rattle.hm_schedule.specs.Reads.{Reads}
 use Rattle.hm_schedule.specs.declared.keyword.Keyword.{Keyword}
 use Rattle.hm_schedule.specs.declared.keyword.Keyword.TheVariants as keyword
@@ -94,6 +94,9 @@ visible_keyword keyword.Drop = letters (codes "drop") (lit< tt, (lit< tt, (lit< 
 visible_keyword keyword.Tick = letters (codes "tick") (lit< tt, (lit< tt, (lit< tt, (lit< tt, tt))))
 visible_keyword keyword.Stop = letters (codes "stop") (lit< tt, (lit< tt, (lit< tt, (lit< tt, tt))))
 visible_keyword keyword.Remove = letters (codes "remove") (lit< tt, (lit< tt, (lit< tt, (lit< tt, (lit< tt, (lit< tt, tt))))))
+
+pub word_of_chain : IsWord (codes "chain")
+word_of_chain = word_from_visible (codes "chain") (letters (codes "chain") (lit< tt, (lit< tt, (lit< tt, (lit< tt, (lit< tt, tt))))))
 
 spaced_ends : (words : List (List ℕ)) → IsWordEnd (spaced words)
 spaced_ends [] = tt
