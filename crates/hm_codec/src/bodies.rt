@@ -1,4 +1,4 @@
-ghost use Rattle.std.specs.Prelude.{◌≡◌};
+ghost use Rattle.std.specs.Prelude.{◌≡◌, []};
 ghost use Rattle.hm_codec.specs.Reading as reading;
 ghost use Rattle.hm_codec.specs.Reading.{Gives};
 
@@ -7,11 +7,29 @@ use crate::fields::{u8_within, u32_at, u64_at};
 use crate::lists::{entries_at, members_at};
 use crate::malformed::Reason;
 use crate::parts::{answer_at, stamp_at, value_at};
+use hm_base::entries::Entries;
 use hm_packet::body::{
-    Ask, Config, Done, FastRead, Feed, FeedAck, Known, NormalRead, Page, Pull, Put, Read, Refuse,
-    Refused, Reply, StartViewChange, Vote, Write,
+    Ask, Config, Done, FastRead, FeedAck, Known, NormalRead, Pull, Put, Read, Refuse, Refused,
+    Reply, StartViewChange, Vote, Write,
 };
 use hm_packet::route::Route;
+
+/// The fields of a feed before its entries. Entries are read into a page that lies where the packet is made, since copies of
+/// a page cost more than reading a small one.
+#[derive(Clone, Copy, Debug, PartialEq, Eq)]
+pub(crate) struct FeedFields {
+    pub(crate) view: u32,
+    pub(crate) start: u32,
+    pub(crate) first: u32,
+    pub(crate) commit: u32,
+}
+
+/// The fields of a page before its entries.
+#[derive(Clone, Copy, Debug, PartialEq, Eq)]
+pub(crate) struct PageFields {
+    pub(crate) view: u32,
+    pub(crate) first: u32,
+}
 
 /// Reads the fields of a read. Here and below, the bytes after the fields stand beside them.
 #[tactic(auto, unfolding(crate::specs::Reading::read_at))]
@@ -138,27 +156,27 @@ pub(crate) fn reply_at(bytes: &[u8]) -> Result<(Reply, &[u8]), Fault>
     }
 }
 
+/// Reads the fields of a feed, its entries into the empty page.
 #[tactic(auto, unfolding(crate::specs::Reading::feed_at))]
-pub(crate) fn feed_at(bytes: &[u8]) -> Result<(Feed, &[u8]), Fault>
-    ensures { Gives (λ x. (x.0, x.1.now)) result (reading.feed_at bytes.now) }
+pub(crate) fn feed_at<'a>(
+    bytes: &'a [u8],
+    entries: &mut Entries,
+) -> Result<(FeedFields, &'a [u8]), Fault>
+    requires { entries.old ≡ [] }
+    ensures { Gives (λ x. (record { view = x.0.view; start = x.0.start; first = x.0.first; commit = x.0.commit; entries = entries.new }, x.1.now)) result (reading.feed_at bytes.now) }
 {
     let (view, rest) = u32_at(bytes)?;
     let (start, rest) = u32_at(rest)?;
     let (first, rest) = u32_at(rest)?;
     let (commit, rest) = u32_at(rest)?;
-    match entries_at(rest) {
-        Ok((entries, rest)) => {
-            let feed = Feed {
-                view,
-                start,
-                first,
-                commit,
-                entries,
-            };
-            Ok((feed, rest))
-        }
-        Err(fault) => Err(fault),
-    }
+    let rest = entries_at(rest, entries)?;
+    let fields = FeedFields {
+        view,
+        start,
+        first,
+        commit,
+    };
+    Ok((fields, rest))
 }
 
 #[tactic(auto, unfolding(crate::specs::Reading::feed_ack_at))]
@@ -234,23 +252,19 @@ pub(crate) fn pull_at(bytes: &[u8]) -> Result<(Pull, &[u8]), Fault>
     Ok((Pull { view, first }, rest))
 }
 
+/// Reads the fields of a page, its entries into the empty page.
 #[tactic(auto, unfolding(crate::specs::Reading::page_at))]
-pub(crate) fn page_at(bytes: &[u8]) -> Result<(Page, &[u8]), Fault>
-    ensures { Gives (λ x. (x.0, x.1.now)) result (reading.page_at bytes.now) }
+pub(crate) fn page_at<'a>(
+    bytes: &'a [u8],
+    entries: &mut Entries,
+) -> Result<(PageFields, &'a [u8]), Fault>
+    requires { entries.old ≡ [] }
+    ensures { Gives (λ x. (record { view = x.0.view; first = x.0.first; entries = entries.new }, x.1.now)) result (reading.page_at bytes.now) }
 {
     let (view, rest) = u32_at(bytes)?;
     let (first, rest) = u32_at(rest)?;
-    match entries_at(rest) {
-        Ok((entries, rest)) => {
-            let page = Page {
-                view,
-                first,
-                entries,
-            };
-            Ok((page, rest))
-        }
-        Err(fault) => Err(fault),
-    }
+    let rest = entries_at(rest, entries)?;
+    Ok((PageFields { view, first }, rest))
 }
 
 #[tactic(auto, unfolding(crate::specs::Reading::config_at))]

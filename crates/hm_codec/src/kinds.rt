@@ -12,20 +12,21 @@ use crate::bodies::{
 use crate::fault::{Fault, malformed};
 use crate::head::Head;
 use crate::malformed::{Malformed, Reason};
-use hm_packet::body::Body;
+use hm_base::entries::Entries;
+use hm_packet::body::{Body, Feed, Page};
 use hm_packet::packet::Packet;
 
 /// The packet of a body that was read to the end of the bytes, or the fault. Each kind has a function of its own, since a
 /// function pays at entry for the size of its locals, and a `Body` is large.
 macro_rules! packet {
-    ($head:expr, $kind:ident, $read:expr) => {
+    ($head:expr, $read:expr, $fields:ident, $body:expr) => {
         match $read {
-            Ok((body, rest)) => {
+            Ok(($fields, rest)) => {
                 if rest.is_empty() {
                     Ok(Packet {
                         src: $head.src,
                         dst: $head.dst,
-                        body: Body::$kind(body),
+                        body: $body,
                     })
                 } else {
                     let fault = Fault {
@@ -46,7 +47,7 @@ pub(crate) fn read_packet(head: Head, bytes: &[u8]) -> Result<Packet, Malformed>
     requires dst { IsLawfulNode head.dst }
     ensures { result ≡ located head.len (end_with head.src head.dst (as_body (λ b. body.Read b) (reading.read_at bytes.now))) }
 {
-    packet!(head, Read, read_at(bytes))
+    packet!(head, read_at(bytes), fields, Body::Read(fields))
 }
 
 /// Reads the packet of a write.
@@ -55,7 +56,7 @@ pub(crate) fn write_packet(head: Head, bytes: &[u8]) -> Result<Packet, Malformed
     requires dst { IsLawfulNode head.dst }
     ensures { result ≡ located head.len (end_with head.src head.dst (as_body (λ b. body.Write b) (reading.write_at bytes.now))) }
 {
-    packet!(head, Write, write_at(bytes))
+    packet!(head, write_at(bytes), fields, Body::Write(fields))
 }
 
 /// Reads the packet of a numbered write.
@@ -64,7 +65,7 @@ pub(crate) fn put_packet(head: Head, bytes: &[u8]) -> Result<Packet, Malformed>
     requires dst { IsLawfulNode head.dst }
     ensures { result ≡ located head.len (end_with head.src head.dst (as_body (λ b. body.Put b) (reading.put_at bytes.now))) }
 {
-    packet!(head, Put, put_at(bytes))
+    packet!(head, put_at(bytes), fields, Body::Put(fields))
 }
 
 /// Reads the packet of a stamped read.
@@ -73,7 +74,7 @@ pub(crate) fn fast_read_packet(head: Head, bytes: &[u8]) -> Result<Packet, Malfo
     requires dst { IsLawfulNode head.dst }
     ensures { result ≡ located head.len (end_with head.src head.dst (as_body (λ b. body.FastRead b) (reading.fast_read_at bytes.now))) }
 {
-    packet!(head, FastRead, fast_read_at(bytes))
+    packet!(head, fast_read_at(bytes), fields, Body::FastRead(fields))
 }
 
 /// Reads the packet of a read that goes the normal way.
@@ -82,7 +83,12 @@ pub(crate) fn normal_read_packet(head: Head, bytes: &[u8]) -> Result<Packet, Mal
     requires dst { IsLawfulNode head.dst }
     ensures { result ≡ located head.len (end_with head.src head.dst (as_body (λ b. body.NormalRead b) (reading.normal_read_at bytes.now))) }
 {
-    packet!(head, NormalRead, normal_read_at(bytes))
+    packet!(
+        head,
+        normal_read_at(bytes),
+        fields,
+        Body::NormalRead(fields)
+    )
 }
 
 /// Reads the packet of a completion.
@@ -91,7 +97,7 @@ pub(crate) fn done_packet(head: Head, bytes: &[u8]) -> Result<Packet, Malformed>
     requires dst { IsLawfulNode head.dst }
     ensures { result ≡ located head.len (end_with head.src head.dst (as_body (λ b. body.Done b) (reading.done_at bytes.now))) }
 {
-    packet!(head, Done, done_at(bytes))
+    packet!(head, done_at(bytes), fields, Body::Done(fields))
 }
 
 /// Reads the packet of an answer.
@@ -100,7 +106,7 @@ pub(crate) fn reply_packet(head: Head, bytes: &[u8]) -> Result<Packet, Malformed
     requires dst { IsLawfulNode head.dst }
     ensures { result ≡ located head.len (end_with head.src head.dst (as_body (λ b. body.Reply b) (reading.reply_at bytes.now))) }
 {
-    packet!(head, Reply, reply_at(bytes))
+    packet!(head, reply_at(bytes), fields, Body::Reply(fields))
 }
 
 /// Reads the packet of a page from a log.
@@ -109,7 +115,19 @@ pub(crate) fn feed_packet(head: Head, bytes: &[u8]) -> Result<Packet, Malformed>
     requires dst { IsLawfulNode head.dst }
     ensures { result ≡ located head.len (end_with head.src head.dst (as_body (λ b. body.Feed b) (reading.feed_at bytes.now))) }
 {
-    packet!(head, Feed, feed_at(bytes))
+    let mut entries = Entries::new();
+    packet!(
+        head,
+        feed_at(bytes, &mut entries),
+        fields,
+        Body::Feed(Feed {
+            view: fields.view,
+            start: fields.start,
+            first: fields.first,
+            commit: fields.commit,
+            entries,
+        })
+    )
 }
 
 /// Reads the packet of how long a list is held.
@@ -118,7 +136,7 @@ pub(crate) fn feed_ack_packet(head: Head, bytes: &[u8]) -> Result<Packet, Malfor
     requires dst { IsLawfulNode head.dst }
     ensures { result ≡ located head.len (end_with head.src head.dst (as_body (λ b. body.FeedAck b) (reading.feed_ack_at bytes.now))) }
 {
-    packet!(head, FeedAck, feed_ack_at(bytes))
+    packet!(head, feed_ack_at(bytes), fields, Body::FeedAck(fields))
 }
 
 /// Reads the packet of a call for a completion.
@@ -127,7 +145,7 @@ pub(crate) fn ask_packet(head: Head, bytes: &[u8]) -> Result<Packet, Malformed>
     requires dst { IsLawfulNode head.dst }
     ensures { result ≡ located head.len (end_with head.src head.dst (as_body (λ b. body.Ask b) (reading.ask_at bytes.now))) }
 {
-    packet!(head, Ask, ask_at(bytes))
+    packet!(head, ask_at(bytes), fields, Body::Ask(fields))
 }
 
 /// Reads the packet of how much is committed.
@@ -136,7 +154,7 @@ pub(crate) fn known_packet(head: Head, bytes: &[u8]) -> Result<Packet, Malformed
     requires dst { IsLawfulNode head.dst }
     ensures { result ≡ located head.len (end_with head.src head.dst (as_body (λ b. body.Known b) (reading.known_at bytes.now))) }
 {
-    packet!(head, Known, known_at(bytes))
+    packet!(head, known_at(bytes), fields, Body::Known(fields))
 }
 
 /// Reads the packet of a view that is entered.
@@ -145,7 +163,12 @@ pub(crate) fn start_view_change_packet(head: Head, bytes: &[u8]) -> Result<Packe
     requires dst { IsLawfulNode head.dst }
     ensures { result ≡ located head.len (end_with head.src head.dst (as_body (λ b. body.StartViewChange b) (reading.start_view_change_at bytes.now))) }
 {
-    packet!(head, StartViewChange, start_view_change_at(bytes))
+    packet!(
+        head,
+        start_view_change_at(bytes),
+        fields,
+        Body::StartViewChange(fields)
+    )
 }
 
 /// Reads the packet of a vote.
@@ -154,7 +177,7 @@ pub(crate) fn vote_packet(head: Head, bytes: &[u8]) -> Result<Packet, Malformed>
     requires dst { IsLawfulNode head.dst }
     ensures { result ≡ located head.len (end_with head.src head.dst (as_body (λ b. body.Vote b) (reading.vote_at bytes.now))) }
 {
-    packet!(head, Vote, vote_at(bytes))
+    packet!(head, vote_at(bytes), fields, Body::Vote(fields))
 }
 
 /// Reads the packet of a call for a log.
@@ -163,7 +186,7 @@ pub(crate) fn pull_packet(head: Head, bytes: &[u8]) -> Result<Packet, Malformed>
     requires dst { IsLawfulNode head.dst }
     ensures { result ≡ located head.len (end_with head.src head.dst (as_body (λ b. body.Pull b) (reading.pull_at bytes.now))) }
 {
-    packet!(head, Pull, pull_at(bytes))
+    packet!(head, pull_at(bytes), fields, Body::Pull(fields))
 }
 
 /// Reads the packet of a page of the chosen log.
@@ -172,7 +195,17 @@ pub(crate) fn page_packet(head: Head, bytes: &[u8]) -> Result<Packet, Malformed>
     requires dst { IsLawfulNode head.dst }
     ensures { result ≡ located head.len (end_with head.src head.dst (as_body (λ b. body.Page b) (reading.page_at bytes.now))) }
 {
-    packet!(head, Page, page_at(bytes))
+    let mut entries = Entries::new();
+    packet!(
+        head,
+        page_at(bytes, &mut entries),
+        fields,
+        Body::Page(Page {
+            view: fields.view,
+            first: fields.first,
+            entries,
+        })
+    )
 }
 
 /// Reads the packet of the members of an epoch.
@@ -181,7 +214,7 @@ pub(crate) fn config_packet(head: Head, bytes: &[u8]) -> Result<Packet, Malforme
     requires dst { IsLawfulNode head.dst }
     ensures { result ≡ located head.len (end_with head.src head.dst (as_body (λ b. body.Config b) (reading.config_at bytes.now))) }
 {
-    packet!(head, Config, config_at(bytes))
+    packet!(head, config_at(bytes), fields, Body::Config(fields))
 }
 
 /// Reads the packet of a route.
@@ -190,7 +223,7 @@ pub(crate) fn route_packet(head: Head, bytes: &[u8]) -> Result<Packet, Malformed
     requires dst { IsLawfulNode head.dst }
     ensures { result ≡ located head.len (end_with head.src head.dst (as_body (λ b. body.Route b) (reading.route_at bytes.now))) }
 {
-    packet!(head, Route, route_at(bytes))
+    packet!(head, route_at(bytes), fields, Body::Route(fields))
 }
 
 /// Reads the packet of a switch to be refused.
@@ -199,7 +232,7 @@ pub(crate) fn refuse_packet(head: Head, bytes: &[u8]) -> Result<Packet, Malforme
     requires dst { IsLawfulNode head.dst }
     ensures { result ≡ located head.len (end_with head.src head.dst (as_body (λ b. body.Refuse b) (reading.refuse_at bytes.now))) }
 {
-    packet!(head, Refuse, refuse_at(bytes))
+    packet!(head, refuse_at(bytes), fields, Body::Refuse(fields))
 }
 
 /// Reads the packet of a refused switch.
@@ -208,5 +241,5 @@ pub(crate) fn refused_packet(head: Head, bytes: &[u8]) -> Result<Packet, Malform
     requires dst { IsLawfulNode head.dst }
     ensures { result ≡ located head.len (end_with head.src head.dst (as_body (λ b. body.Refused b) (reading.refused_at bytes.now))) }
 {
-    packet!(head, Refused, refused_at(bytes))
+    packet!(head, refused_at(bytes), fields, Body::Refused(fields))
 }

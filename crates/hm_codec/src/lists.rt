@@ -1,4 +1,4 @@
-ghost use Rattle.std.specs.Prelude.{◌≡◌, ◌≤◌, ◌<◌, All};
+ghost use Rattle.std.specs.Prelude.{[], ◌≡◌, ◌≤◌, ◌<◌, All};
 ghost use Rattle.hm_codec.specs.Reading as reading;
 ghost use Rattle.hm_codec.specs.Reading.{Gives, with_front, rising_at};
 
@@ -9,12 +9,13 @@ use crate::parts::entry_at;
 use hm_base::entries::Entries;
 use hm_base::members::Members;
 
-/// Reads so many entries.
-fn many_at(count: u8, bytes: &[u8]) -> Result<(Entries, &[u8]), Fault>
-    requires { count ≤ 16 }
-    ensures { Gives (λ x. (x.0, x.1.now)) result (reading.many_at count bytes.now) }
+/// Reads so many entries into the empty page, and answers the bytes after them.
+#[inline]
+fn many_at<'a>(count: u8, bytes: &'a [u8], entries: &mut Entries) -> Result<&'a [u8], Fault>
+    requires fits { count ≤ 16 }
+    requires empty { entries.old ≡ [] }
+    ensures { Gives (λ rest. (entries.new, rest.now)) result (reading.many_at count bytes.now) }
 {
-    let mut entries = Entries::new();
     let mut rest = bytes;
     for _ in 0..count {
         match entry_at(rest) {
@@ -27,16 +28,17 @@ fn many_at(count: u8, bytes: &[u8]) -> Result<(Entries, &[u8]), Fault>
             Err(fault) => return Err(fault),
         }
     }
-    Ok((entries, rest))
+    Ok(rest)
 }
 
-/// Reads a page: the number of its entries, and the entries.
+/// Reads a page into the empty page: the number of its entries, and the entries. It answers the bytes after them.
 #[tactic(auto, unfolding(crate::specs::Reading::entries_at))]
-pub(crate) fn entries_at(bytes: &[u8]) -> Result<(Entries, &[u8]), Fault>
-    ensures { Gives (λ x. (x.0, x.1.now)) result (reading.entries_at bytes.now) }
+pub(crate) fn entries_at<'a>(bytes: &'a [u8], entries: &mut Entries) -> Result<&'a [u8], Fault>
+    requires { entries.old ≡ [] }
+    ensures { Gives (λ rest. (entries.new, rest.now)) result (reading.entries_at bytes.now) }
 {
     let (count, rest) = u8_within(bytes, 0, 16, Reason::Length)?;
-    many_at(count, rest)
+    many_at(count, rest, entries)
 }
 
 /// Reads a list of members: their number, and the members in strictly rising order.

@@ -6,3 +6,4 @@ pub mod Looks
 pub mod Lives
 pub mod Writes
 mod Puts
+mod Census

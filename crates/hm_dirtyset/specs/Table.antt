@@ -1,6 +1,6 @@
 -- What contracts see of a dirty set.
 use Rattle.std.specs.Prelude.{◌≡◌, ◌≢◌, ℕ, ◌+◌, ◌*◌, ◌^◌, ◌==◌, ◌&&◌, not, nat_lt, nat_le, true, if◌then◌else◌, List, [], ◌∷◌, length, slice_get, Option, Some, None, option_map, is_some}
-use Rattle.std.specs.List.{AllByRecursion}
+use Rattle.std.specs.List.{AllByRecursion, list_any}
 use Rattle.hm_base.specs.Slots.{Kept, Slots, slot_of, live_stage}
 use Rattle.hm_dirtyset.specs.declared.slot.Slot.{Slot}
 use Rattle.hm_dirtyset.specs.declared.dirty_set.OpenFault.{OpenFault}
@@ -61,6 +61,17 @@ pub record IsCrowd (table : Table) (object : ℕ) : Type 0 where
   pub many : length objects ≡ table.stages
   pub others : AreOthers object objects
   pub live : AllByRecursion (λ o. is_some (live_number table o) ≡ true) objects
+
+abbrev pub AreDistinct : List ℕ → Type 0
+AreDistinct [] = Unit {0}
+AreDistinct (o ∷ os) = AllByRecursion (λ other. o ≢ other) os × AreDistinct os
+
+-- so many objects have live numbers: a list has just these, each once
+pub record CountsLive (table : Table) (count : ℕ) : Type 0 where
+  pub objects : List ℕ
+  pub many : length objects ≡ count
+  pub distinct : AreDistinct objects
+  pub live : (object : ℕ) → list_any (λ other. other == object) objects ≡ is_some (live_number table object)
 
 -- the first argument of an opening that is out of its range, if any is
 abbrev pub open_fault : ℕ → ℕ → Option OpenFault

@@ -1,8 +1,9 @@
-ghost use Rattle.std.specs.Prelude.{◌≡◌, ◌<◌, ◌≤◌, ◌↔◌, ◌⊎◌, ◌++◌, ◌==◌, ◌∷◌, [], ℕ, false, if◌then◌else◌, length, slice_get, Some, None, IsOk, IfOk, OnOk, OnErr, IfErr};
+ghost use Rattle.std.specs.Prelude.{◌≡◌, ◌<◌, ◌≤◌, ◌↔◌, ◌⊎◌, ◌++◌, ◌==◌, ◌∷◌, [], ℕ, false, if◌then◌else◌, nat_lt, length, slice_get, Some, None, IsOk, IfOk, OnOk, OnErr, IfErr};
+ghost use Rattle.std.specs.List.{count_by};
 ghost use Rattle.hm_base.specs.Slots as rule;
 ghost use Rattle.hm_base.specs.StepCounts.{TakesAtMost};
 ghost use Rattle.hm_links.specs.Linked.{others};
-ghost use Rattle.hm_dirtyset.specs.Table.{kept_of, slots_of, live_number, number_above, open_fault, IsCrowd};
+ghost use Rattle.hm_dirtyset.specs.Table.{kept_of, slots_of, live_number, number_above, open_fault, IsCrowd, CountsLive};
 
 use crate::find::{Found, find, target};
 use crate::places::{slot_count, slot_of};
@@ -162,6 +163,13 @@ impl DirtySet {
         self.point = point;
     }
 
+    /// How many objects have a live number. It walks over all slots.
+    pub fn live(&self) -> u32
+        ensures { CountsLive self.now result }
+    {
+        live_slots(&self.slots, self.point)
+    }
+
     /// The number at and below which no number is live.
     pub fn point(&self) -> u64
         ensures { result ≡ self.now.point }
@@ -187,6 +195,14 @@ fn move_back(links: &mut Links, i: u32)
         links.unlink(i);
     }
     links.push_back(i);
+}
+
+/// How many slots hold a number above the point.
+fn live_slots(slots: &[Slot], point: u64) -> u32
+    requires { length slots.now ≤ 16384 }
+    ensures { result ≡ count_by (λ slot. nat_lt point slot.number) slots.now }
+{
+    slots.iter().filter(|slot| slot.number > point).count() as u32
 }
 
 /// Slots that hold nothing.

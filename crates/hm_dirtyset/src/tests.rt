@@ -28,8 +28,10 @@ fn keeps_the_numbers_above_the_point(rt: HostRuntime) -> Result<(), Fail> {
     assert!(rt; set.put(5, 3).is_ok());
     assert_eq!(rt; set.get(5, &mut steps), Some(3));
     assert_eq!(rt; set.greatest(), 3);
+    assert_eq!(rt; set.live(), 2);
     set.clean_to(2, &mut steps);
     assert_eq!(rt; set.get(6, &mut steps), None);
+    assert_eq!(rt; set.live(), 1);
     assert_eq!(rt; steps.shown(), 3);
     assert!(rt; set.put(7, 4).is_ok());
     assert_eq!(rt; set.point(), 2);

@@ -14,6 +14,7 @@ pub ends_complete : (result : Status) (lines : List Line) (left now held put : O
 ends_complete status.Done lines left now held put f schedule is read written ends = inl refl
 ends_complete status.BadWords lines left now held put f schedule is read written ends = absurd ends
 ends_complete (status.BadLine line reason) lines left now held put f schedule is read written ends = absurd (breaks_nowhere ends.begun lines left ends.lawful schedule is ends.breaks)
+ends_complete (status.BadFrame frame at reason) lines left now held put f schedule is read written ends = absurd ends
 ends_complete status.ReadFault lines left now held put f schedule is read written ends = absurd (read ends.0)
 ends_complete status.WriteFault lines left now held put f schedule is read written ends = absurd (written ends.0)
 ends_complete (status.TooLong line) lines left now held put f schedule is read written ends = absurd ends

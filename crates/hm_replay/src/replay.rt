@@ -1,9 +1,14 @@
-ghost use Rattle.std.specs.Prelude.{◌≡◌, ◌≢◌, ◌⊎◌, ℕ, List, [], ◌∷◌, Some, codes, map, string_bytes};
+ghost use Rattle.std.specs.Prelude.{◌≡◌, ◌≢◌, ◌≤◌, ◌⊎◌, ℕ, List, [], ◌∷◌, length, Some, codes, flat_map, map, string_bytes};
+ghost use Rattle.std.specs.List.{AllByRecursion};
+ghost use Rattle.hm_packet.specs.Messages.{Message};
+ghost use Rattle.hm_codec.specs.Packets.{HasSpelling};
+ghost use Rattle.hm_frame.specs.Frames.{frame};
+ghost use Rattle.hm_show.specs.Shows.{max_frames};
 ghost use Rattle.hm_order.specs.Order.{order};
 ghost use Rattle.hm_rules.specs.RunText.{order_text, bad_text};
 ghost use Rattle.hm_schedule.specs.Reasons.{reason_text};
 ghost use Rattle.hm_replay.specs.Closings.{Closes};
-ghost use Rattle.hm_replay.specs.Statuses.{Ends};
+ghost use Rattle.hm_replay.specs.Statuses.{Ends, EndsShow};
 ghost use Rattle.hm_frame.specs.Faults.{Rose};
 ghost use Rattle.hm_replay.specs.Replays.{IsWholeRun, IsBadRun, IsCutRun, IsPartialRun};
 ghost use Rattle.hm_schedule.specs.Orders.{IsSchedule, lines_text};
@@ -14,16 +19,17 @@ use crate::events::write_event;
 use crate::lines::LineReader;
 use crate::reading::{NextEvent, next_event, read_opening};
 use crate::run_text::{write_bad, write_order};
-use crate::status::Status;
-use crate::words::is_replay;
+use crate::status::{Status, status_of};
+use crate::words::is_word;
 use hm_frame::outside::{Sink, Source, put_all};
 use hm_schedule::line::LineReason;
+use hm_show::show::show;
 use hm_world::world::World;
 use std::alloc::Global;
 
 /// Does what a program's words, without its name, say. `replay` reads a schedule from the source, runs it, and writes the text
-/// of its run to the sink, each event's text and the ending as one piece. No other words are a command, and then nothing is read
-/// or put.
+/// of its run to the sink, each event's text and the ending as one piece. `show` reads frames and writes each packet's text. No
+/// other words are a command, and then nothing is read or put.
 ///
 /// The clauses on what was read and put hold where source and sink tell their bytes.
 pub fn run<S: Source, K: Sink>(
@@ -33,21 +39,23 @@ pub fn run<S: Source, K: Sink>(
     sink: &mut K,
 ) -> Status
     // BadWords comes exactly where the words are no command.
-    ensures command { result ≢ Status.BadWords → map string_bytes words.now ≡ codes "replay" ∷ [] }
-    ensures no_command { map string_bytes words.now ≡ codes "replay" ∷ [] → result ≢ Status.BadWords }
-    ensures no_limit { (line : ℕ) → result ≢ Status.TooLong line }
+    ensures command { result ≢ Status.BadWords → (map string_bytes words.now ≡ codes "replay" ∷ []) ⊎ (map string_bytes words.now ≡ codes "show" ∷ []) }
+    ensures no_command { (map string_bytes words.now ≡ codes "replay" ∷ []) ⊎ (map string_bytes words.now ≡ codes "show" ∷ []) → result ≢ Status.BadWords }
+    ensures no_limit { (line : ℕ) → map string_bytes words.now ≡ codes "replay" ∷ [] → result ≢ Status.TooLong line }
     ensures untouched { result ≡ Status.BadWords → (source.new ≡ source.old) × (sink.new ≡ sink.old) }
 
     // A fault comes only where the device's count rose in this call.
     ensures read_fault { result ≡ Status.ReadFault → Rose (S.faults source.old) (S.faults source.new) }
     ensures write_fault { result ≡ Status.WriteFault → Rose (K.faults sink.old) (K.faults sink.new) }
 
-    // What was read, and what was put.
-    ensures done { result ≡ Status.Done → IsWholeRun (S.left source.old) (S.left source.new) (K.held sink.old) (K.held sink.new) }
+    // What a replay read, and what it put.
+    ensures done { map string_bytes words.now ≡ codes "replay" ∷ [] → result ≡ Status.Done
+        → IsWholeRun (S.left source.old) (S.left source.new) (K.held sink.old) (K.held sink.new) }
     ensures bad_line { (line : ℕ) → (reason : LineReason) → result ≡ Status.BadLine line reason
         → IsBadRun (S.left source.old) (K.held sink.old) (K.held sink.new) line reason }
-    ensures cut { result ≡ Status.ReadFault → IsCutRun (S.left source.old) (S.left source.new) (K.held sink.old) (K.held sink.new) }
-    ensures partial { (result ≡ Status.WriteFault) ⊎ (result ≡ Status.NoMemory)
+    ensures cut { map string_bytes words.now ≡ codes "replay" ∷ [] → result ≡ Status.ReadFault
+        → IsCutRun (S.left source.old) (S.left source.new) (K.held sink.old) (K.held sink.new) }
+    ensures partial { map string_bytes words.now ≡ codes "replay" ∷ [] → (result ≡ Status.WriteFault) ⊎ (result ≡ Status.NoMemory)
         → IsPartialRun (S.left source.old) (S.left source.new) (K.held sink.old) (K.held sink.new) }
 
     // A schedule that is read without a fault, and whose text is put without one, is replayed whole, unless memory is wanting.
@@ -56,9 +64,21 @@ pub fn run<S: Source, K: Sink>(
         → (Rose (S.faults source.old) (S.faults source.new) → ⊥)
         → (Rose (K.faults sink.old) (K.faults sink.new) → ⊥)
         → (result ≡ Status.Done) ⊎ (result ≡ Status.NoMemory) }
+
+    // What a show read, and what it put.
+    ensures show { map string_bytes words.now ≡ codes "show" ∷ []
+        → EndsShow result (S.left source.old) (S.left source.new) (K.held sink.old) (K.held sink.new)
+        (record { read_before = S.faults source.old; read_after = S.faults source.new; put_before = K.faults sink.old; put_after = K.faults sink.new }) }
+    // Frames within the limits, over a source and a sink whose counts don't rise, are shown whole, or memory is wanting.
+    ensures show_complete { map string_bytes words.now ≡ codes "show" ∷ [] → (packets : List Message) → S.left source.old ≡ Some (flat_map frame packets)
+        → AllByRecursion HasSpelling packets → length packets ≤ max_frames
+        → (Rose (S.faults source.old) (S.faults source.new) → ⊥) → (Rose (K.faults sink.old) (K.faults sink.new) → ⊥)
+        → (result ≡ Status.Done) ⊎ (result ≡ Status.NoMemory) }
 {
-    if is_replay(words) {
+    if is_word(words, "replay") {
         replay(alloc, source, sink)
+    } else if is_word(words, "show") {
+        status_of(show(alloc, source, sink))
     } else {
         Status::BadWords
     }

@@ -1,8 +1,11 @@
 ghost use Rattle.std.specs.Prelude.{◌≡◌};
+ghost use Rattle.hm_replay.specs.Statuses.{status_of};
 
+use hm_codec::malformed::Reason;
 use hm_schedule::line::LineReason;
+use hm_show::show::Shown;
 
-/// How a run ended. Lines are numbered from 1.
+/// How a run ended. Lines and frames are numbered from 1.
 #[derive(Clone, Copy, Debug, PartialEq, Eq)]
 pub enum Status {
     /// The whole input was read and all of the text was written.
@@ -11,11 +14,13 @@ pub enum Status {
     BadWords,
     /// This line of a schedule is the first outside the grammar.
     BadLine { line: u32, reason: LineReason },
+    /// This frame is the first that is at fault, at this place, counted from its first byte.
+    BadFrame { frame: u32, at: u32, reason: Reason },
     /// The source failed.
     ReadFault,
     /// The sink failed.
     WriteFault,
-    /// The input is longer than the limits allow.
+    /// The input is longer than the limits allow: the number of the line or frame that is one too many.
     TooLong { line: u32 },
     /// Memory was wanting.
     NoMemory,
@@ -31,11 +36,29 @@ impl Status {
         match self {
             Status::Done => 0,
             Status::BadWords => 2,
-            Status::BadLine { .. } => 3,
+            Status::BadLine { .. } | Status::BadFrame { .. } => 3,
             Status::ReadFault => 4,
             Status::WriteFault => 5,
             Status::TooLong { .. } => 6,
             Status::NoMemory => 7,
         }
+    }
+}
+
+/// The status after a show.
+pub(crate) fn status_of(shown: Shown) -> Status
+    ensures { result ≡ status_of shown }
+{
+    match shown {
+        Shown::Done => Status::Done,
+        Shown::BadFrame { number, fault } => Status::BadFrame {
+            frame: number,
+            at: fault.at,
+            reason: fault.reason,
+        },
+        Shown::ReadFault => Status::ReadFault,
+        Shown::WriteFault => Status::WriteFault,
+        Shown::TooLong { number } => Status::TooLong { line: number },
+        Shown::NoMemory => Status::NoMemory,
     }
 }

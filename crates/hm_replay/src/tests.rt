@@ -275,3 +275,27 @@ fn never_fails_over_sure_ends(rt: HostRuntime) -> Result<(), Fail> {
     assert_eq!(rt; status, Status::Done);
     Ok(())
 }
+
+/// The frame of `c8 s1 read 1 5`.
+const READ_FRAME: [u8; 26] = [
+    0x00, 0x18, 0x01, 0x01, 0x01, 0x00, 0x00, 0x00, 0x08, 0x02, 0x00, 0x00, 0x00, 0x01, 0x00, 0x00,
+    0x00, 0x00, 0x00, 0x00, 0x00, 0x01, 0x00, 0x00, 0x00, 0x05,
+];
+
+#[test]
+fn shows_frames(rt: HostRuntime) -> Result<(), Fail> {
+    let words = words(rt.alloc(), &["show"])?;
+    let mut whole = source(rt.alloc(), &READ_FRAME, &[])?;
+    let mut text = sink(rt.alloc(), &[])?;
+    assert_eq!(rt; run(rt.alloc(), &words, &mut whole, &mut text).code(), 0);
+    assert_eq!(rt;
+        text.as_slice(),
+        b"packet 1 c8 s1 read 1 5\nend 1\n".as_slice()
+    );
+
+    let mut part = source(rt.alloc(), &READ_FRAME[..10], &[])?;
+    let mut text = sink(rt.alloc(), &[])?;
+    assert_eq!(rt; run(rt.alloc(), &words, &mut part, &mut text).code(), 3);
+    assert_eq!(rt; text.as_slice(), b"bad 1 10 Short\n".as_slice());
+    Ok(())
+}

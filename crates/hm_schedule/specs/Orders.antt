@@ -1,6 +1,6 @@
 -- Which line may come next of a schedule: the group's comes first, then at most one line each of the table, the switches' life and the
 -- logs' capacity, in this order, and then events. What a schedule's lines say.
-use Rattle.std.specs.Prelude.{◌≡◌, ◌≢◌, ℕ, ◌+◌, ◌<◌, List, [], ◌∷◌, ◌++◌, fold, filter_map, flat_map, Option, Some, None}
+use Rattle.std.specs.Prelude.{◌≢◌, ℕ, ◌+◌, ◌<◌, List, [], ◌∷◌, ◌++◌, fold, filter_map, flat_map, Option, Some, None}
 use Rattle.hm_base.specs.declared.node.GroupKind.{GroupKind}
 use Rattle.hm_base.specs.declared.node.GroupKind.TheVariants.{Chain}
 use Rattle.hm_rules.specs.Events as rule

@@ -1,13 +1,12 @@
 -- What a switch does, for each abstract switch that it stands for.
-use Rattle.std.proofs.Common.{◌≡◌, ℕ, zero, suc, ◌+◌, ◌-◌, ◌<◌, ◌≤◌, Bool, true, false, List, [], ◌∷◌, ◌++◌, length, drop, max, Option, Some, None, refl, sym, ap, ◌∙◌, subst, inl, inr, arith, length-append}
-use Rattle.std.specs.Prelude.{not, ◌&&◌, ◌||◌, ◌==◌, nat_lt, nat_le, if◌then◌else◌, is_some, is_none, slice_index, ◌%◌}
+use Rattle.std.proofs.Common.{◌≡◌, ℕ, ◌+◌, ◌-◌, ◌<◌, ◌≤◌, Bool, true, false, List, [], ◌∷◌, ◌++◌, length, drop, max, Option, Some, None, refl, sym, ap, ◌∙◌, arith, length-append}
+use Rattle.std.specs.Prelude.{not, ◌&&◌, ◌||◌, ◌==◌, nat_lt, nat_le, if◌then◌else◌, is_some, is_none}
 use Rattle.std.specs.List.{AllByRecursion}
-use Rattle.std.proofs.lemmas.Bool.{both_ways, false≢true, not-true, not-false, and_parts, and_from, lt-ltb, le-ltb, le-leb, lt-leb, eq-eqb, ne_eqb, or_from, not_from_true, not_from_false, cond_both}
+use Rattle.std.proofs.lemmas.Bool.{both_ways, false≢true, not-true, not-false, and_parts, and_from, lt-ltb, le-ltb, le-leb, eq-eqb, ne_eqb, or_from, not_from_true, not_from_false, cond_both}
 use Rattle.std.proofs.lemmas.List.{drop_all, drop-append-le, length-drop}
-use Rattle.hm_base.specs.Slots.{Slots, live_stage, free_stage, or_else, target, is_full, put}
+use Rattle.hm_base.specs.Slots.{Slots, live_stage, free_stage, or_else, is_full, put}
 use Rattle.hm_base.specs.declared.node.Node.{Node}
 use Rattle.hm_base.specs.declared.node.Node.TheVariants as node
-use Rattle.hm_base.specs.declared.why.Why.{Why}
 use Rattle.hm_base.specs.declared.why.Why.TheVariants as why
 use Rattle.hm_packet.specs.declared.body.Body.{Body}
 use Rattle.hm_packet.specs.declared.body.Body.TheVariants as body

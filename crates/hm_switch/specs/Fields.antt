@@ -1,5 +1,5 @@
 -- What holds of a switch's fields.
-use Rattle.std.specs.Prelude.{ℕ, ◌≤◌}
+use Rattle.std.specs.Prelude.{◌≤◌}
 use Rattle.hm_switch.specs.declared.switch.Switch.TheInside.{Inside}
 use Rattle.hm_switch.specs.declared.switch.TheConstants.{MAX_LIFE}
 use Rattle.hm_switch.specs.State.{SwitchState}

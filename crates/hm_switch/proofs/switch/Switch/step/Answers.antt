@@ -1,4 +1,4 @@
-use Rattle.std.proofs.Common.{sym, subst, arith}
+use Rattle.std.proofs.Common.{sym, subst}
 use Rattle.hm_rules.specs.Switch.{switch_step}
 use Rattle.hm_switch.specs.State.{SwitchState}
 use Rattle.hm_switch.specs.Fields.{state_of}

@@ -1,9 +1,9 @@
 use Rattle.std.proofs.Common.{◌≡◌, ◌≤◌, ◌<◌, ℕ, Bool, eqb, List, [], ◌∷◌, length, get_or, sym, ap, ◌∙◌, arith}
-use Rattle.std.specs.Prelude.{IsTrue, map, codes}
+use Rattle.std.specs.Prelude.{IsTrue, map}
 use Rattle.std.specs.Cmp.Lexicographic.{pointwise}
 use Rattle.std.proofs.lemmas.Bool.Decides.{Decides-eqb}
 use Rattle.std.proofs.lemmas.Slice.Eq.{slice_eq-Decides}
-use Rattle.hm_replay.proofs.words.is_replay.Goals as goal
+use Rattle.hm_replay.proofs.words.is_word.Goals as goal
 
 -- a list of one item
 one_item : {A : Type 0} (xs : List A) (x : A) → 1 ≤ length xs → length xs < 2 → x ≡ get_or xs 0 x → xs ≡ x ∷ []
@@ -21,4 +21,4 @@ one_text f xs x text word r one is says =
 
 pub returns-in-len1 : goal.returns-in-len1
 returns-in-len1 c =
-    one_text _ _ _ _ (codes "replay") _ (one_item _ _ c.in-len1.len_at_least c.in-len1.len_below c.word-item.is) c.as_str.ensures.value c.eq.ensures
+    one_text _ _ _ _ _ _ (one_item _ _ c.in-len1.len_at_least c.in-len1.len_below c.word-item.is) c.as_str.ensures.value c.eq.ensures

@@ -1,0 +1,158 @@
+ghost use Rattle.std.specs.Prelude.{◌≡◌, ◌≤◌, ◌⊎◌, List, Some, length, flat_map, IfOk, vec_len};
+ghost use Rattle.std.specs.List.{AllByRecursion};
+ghost use Rattle.hm_packet.specs.Messages.{Message};
+ghost use Rattle.hm_codec.specs.Packets.{HasSpelling};
+ghost use Rattle.hm_frame.specs.Faults.{Rose};
+ghost use Rattle.hm_frame.specs.Frames.{frame};
+ghost use Rattle.hm_show.specs.Shows.{max_frames, shown_of, Shows};
+ghost use Rattle.hm_show.specs.Steps.{TakesFrames, Closes, Puts};
+
+use crate::text::{write_closing, write_packet_line};
+use crate::verdict::{Verdict, verdict_at_end};
+use hm_base::memory::NoMemory;
+use hm_codec::malformed::Malformed;
+use hm_frame::frame::Unframer;
+use hm_frame::outside::{Sink, Source, put_all};
+use std::alloc::Global;
+
+/// How many frames are shown at most.
+pub const MAX_FRAMES: u32 = 1_048_576;
+
+/// How many bytes are asked of a source at once.
+const PIECE_LEN: usize = 65_536;
+
+/// How a show ended. Frames are numbered from 1.
+#[derive(Clone, Copy, Debug, PartialEq, Eq)]
+pub enum Shown {
+    /// The input was frames to its end, and their text was put.
+    Done,
+    /// This frame is the first that is at fault.
+    BadFrame { number: u32, fault: Malformed },
+    /// The source failed.
+    ReadFault,
+    /// The sink failed.
+    WriteFault,
+    /// A byte comes behind the last frame that may be shown.
+    TooLong { number: u32 },
+    /// Memory was wanting.
+    NoMemory,
+}
+
+/// Reads frames to the source's end, and writes each packet's text to the sink, a line with its number for each, and then the count.
+pub fn show<S: Source, K: Sink>(alloc: Global, source: &mut S, sink: &mut K) -> Shown
+    // Frames within the limits, over a source and a sink whose counts don't rise, give Done, or want of memory.
+    ensures complete { (packets : List Message) → S.left source.old ≡ Some (flat_map frame packets) → AllByRecursion HasSpelling packets → length packets ≤ max_frames
+        → (Rose (S.faults source.old) (S.faults source.new) → ⊥) → (Rose (K.faults sink.old) (K.faults sink.new) → ⊥)
+        → (result ≡ Shown.Done) ⊎ (result ≡ Shown.NoMemory) }
+    ensures ends { Shows result (S.left source.old) (S.left source.new) (K.held sink.old) (K.held sink.new)
+        (record { read_before = S.faults source.old; read_after = S.faults source.new; put_before = K.faults sink.old; put_after = K.faults sink.new }) }
+{
+    show_frames(alloc, source, sink)
+}
+
+/// Reads frames to the source's end, and writes their packets.
+fn show_frames<S: Source, K: Sink>(alloc: Global, source: &mut S, sink: &mut K) -> Shown
+    ensures { Shows result (S.left source.old) (S.left source.new) (K.held sink.old) (K.held sink.new)
+        (record { read_before = S.faults source.old; read_after = S.faults source.new; put_before = K.faults sink.old; put_after = K.faults sink.new }) }
+{
+    let Ok(mut piece) = zeros(alloc, PIECE_LEN) else {
+        return Shown::NoMemory;
+    };
+    let mut unframer = Unframer::new(alloc);
+    let mut text = Vec::new(alloc);
+    let mut count = 0;
+    loop {
+        text.clear();
+        match write_frames(&mut unframer, &mut count, &mut text) {
+            Ok(None) => {}
+            Ok(Some(verdict)) => return close(verdict, count, &mut text, sink),
+            Err(_) => return Shown::NoMemory,
+        }
+        match put_all(sink, &text) {
+            Ok(()) => {}
+            Err(_) => return Shown::WriteFault,
+        }
+        match source.take(&mut piece) {
+            Ok(0) => {
+                text.clear();
+                return close(verdict_at_end(unframer.held()), count, &mut text, sink);
+            }
+            Ok(len) => match unframer.feed(&piece[..len]) {
+                Ok(()) => {}
+                Err(_) => return Shown::NoMemory,
+            },
+            Err(_) => return Shown::ReadFault,
+        }
+    }
+}
+
+/// Takes the whole frames that are held, and appends their packets' lines. The verdict says why there will be no further one.
+fn write_frames(
+    unframer: &mut Unframer,
+    count: &mut u32,
+    text: &mut Vec<u8>,
+) -> Result<Option<Verdict>, NoMemory>
+    requires { count.old ≤ max_frames }
+    ensures { TakesFrames result unframer.old unframer.new count.old count.new text.old.items text.new.items }
+{
+    while *count < MAX_FRAMES {
+        match unframer.next() {
+            Ok(Some(packet)) => {
+                *count += 1;
+                match write_packet_line(*count, &packet, text) {
+                    Ok(()) => {}
+                    Err(failed) => return Err(failed),
+                }
+            }
+            Ok(None) => return Ok(None),
+            Err(fault) => return Ok(Some(Verdict::Bad(fault))),
+        }
+    }
+    Ok(if unframer.held() == 0 {
+        None
+    } else {
+        Some(Verdict::Long)
+    })
+}
+
+/// Appends the end of the text, and puts it.
+fn close<K: Sink>(verdict: Verdict, count: u32, text: &mut Vec<u8>, sink: &mut K) -> Shown
+    requires { count ≤ max_frames }
+    ensures { Closes result verdict count text.old.items (K.held sink.old) (K.held sink.new) (K.faults sink.old) (K.faults sink.new) }
+{
+    match write_closing(verdict, count, text) {
+        Ok(()) => put_closing(text, shown_of(verdict, count), sink),
+        Err(_) => Shown::NoMemory,
+    }
+}
+
+/// What is answered where the end of the text was put.
+fn shown_of(verdict: Verdict, count: u32) -> Shown
+    requires { count ≤ max_frames }
+    ensures { result ≡ shown_of verdict count }
+{
+    match verdict {
+        Verdict::Whole => Shown::Done,
+        Verdict::Bad(fault) => Shown::BadFrame {
+            number: count + 1,
+            fault,
+        },
+        Verdict::Long => Shown::TooLong { number: count + 1 },
+    }
+}
+
+/// Puts a text. The answer is this one where all of it was put.
+fn put_closing<K: Sink>(text: &[u8], whole: Shown, sink: &mut K) -> Shown
+    ensures { Puts result whole text.now (K.held sink.old) (K.held sink.new) (K.faults sink.old) (K.faults sink.new) }
+{
+    match put_all(sink, text) {
+        Ok(()) => whole,
+        Err(_) => Shown::WriteFault,
+    }
+}
+
+fn zeros(alloc: Global, len: usize) -> Result<Vec<u8>, NoMemory>
+    ensures { IfOk result (λ bytes. vec_len bytes ≡ len) }
+{
+    Ok(vec![in alloc; 0u8; len]?)
+}
