@@ -8,7 +8,7 @@ use Rattle.std.specs.Io.{ReadsAtMost}
 use Rattle.std.specs.Io.KnownBytes.{ReadConsumes}
 use borrow.Rule.Slice.PartMut.{put_mid}
 use Rattle.std.proofs.Math.Seq.{take-append-add}
-use Rattle.hm_replay.specs.LineTexts.{IsLine, ended}
+use Rattle.hm_schedule.specs.LineTexts.{IsLine, ended}
 use Rattle.hm_replay.specs.Lines.{IsOverlong, max_line_len, rest_of}
 use Rattle.hm_replay.specs.declared.lines.Found.TheVariants.{Unfinished}
 use Rattle.hm_replay.specs.Buffers.{buffer_len}

@@ -1,8 +1,8 @@
 pub mod BufferParts
-pub mod FieldTexts
-pub mod Names
 pub mod LineLemmas
+pub mod LinePushes
 pub mod NotNext
 pub mod PacketLines
 pub mod RunLaws
 pub mod Progress
+pub mod Complete

@@ -1,23 +1,15 @@
--- Lines in bytes, and lawful lines.
-use Rattle.std.proofs.Common.{◌≡◌, ◌≢◌, ℕ, ◌+◌, ◌*◌, ◌<◌, ◌≤◌, ◌^◌, List, [], ◌∷◌, ◌++◌, length, get_or, take, Option, Some, None, refl, sym, ap, subst, ◌∙◌, append_assoc, arith, lit<, lit≤}
-use Rattle.std.specs.Prelude.{decimal, codes, All}
+-- Lines at the front of bytes.
+use Rattle.std.proofs.Common.{◌≡◌, ◌≢◌, ℕ, ◌+◌, ◌<◌, ◌≤◌, List, [], ◌∷◌, ◌++◌, length, get_or, take, Option, Some, None, refl, sym, ap, subst, ◌∙◌, append_assoc, arith}
+use Rattle.std.specs.Prelude.{All}
 use Rattle.std.specs.List.{AllByRecursion}
 use Rattle.std.specs.Io.KnownBytes.{Consumes, IsAtEnd}
 use Rattle.std.proofs.lemmas.List.{length-append, length-take, get_or_at, get_or-take, take-append-le, append-nil}
-use Rattle.std.proofs.lemmas.List.Elements.{All-get_or, All-nil, All-cons, All-append, All-from_recursion, recursion_from_All}
-use Rattle.std.proofs.lemmas.Fmt.{length-decimal-le}
-use Rattle.hex.specs.Hex.{lower_digits}
-use Rattle.hex.proofs.HexLemmas.{length-encode_with}
-use Rattle.hm_base.specs.Padded.{max_value_len}
-use Rattle.hm_base.specs.Spellings.{spaced, joined, value_text}
-use Rattle.hm_base.specs.declared.node.GroupKind.TheVariants as kind
-use Rattle.hm_world.specs.declared.event.Event.TheVariants as event
-use Rattle.hm_replay.specs.LineTexts.{IsLine, ended}
+use Rattle.std.proofs.lemmas.List.Elements.{All-get_or, recursion_from_All}
+use Rattle.hm_schedule.specs.LineTexts.{IsLine, ended}
+use Rattle.hm_schedule.specs.Schedules.{IsLawful, line_text}
+use Rattle.hm_schedule.specs.declared.line.Line.{Line}
+use Rattle.hm_schedule.proofs.LineLemmas.{lawful_line, lawful_len}
 use Rattle.hm_replay.specs.Lines.{Moves, IsOverlong, max_line_len}
-use Rattle.hm_replay.specs.Schedules.{IsLawful, line_words, line_text}
-use Rattle.hm_replay.specs.declared.schedule.Line.{Line}
-use Rattle.hm_replay.specs.declared.schedule.Line.TheVariants as line
-use Rattle.hm_replay.proofs.FieldTexts.{IsVisible, visible_decimal, visible_value, line_from_visible}
 
 -- ---- bytes
 
@@ -54,75 +46,6 @@ no_line_in bytes a r none same =
     let size : length bytes ≡ length a + (1 + length r) = ap length (same ∙ ended_front a r) ∙ length-append a (10 ∷ r) ∙ omega arith in
     All-get_or (λ byte. byte ≢ 10) bytes (length a) 0 (omega arith) none here
 
--- ---- lawful lines
-
-spaced_line : (words : List (List ℕ)) → AllByRecursion (All IsVisible) words → IsLine (spaced words)
-spaced_line [] seen = All-nil (λ byte. byte ≢ 10)
-spaced_line (w ∷ ws) seen =
-    All-cons (λ byte. byte ≢ 10) 32 (w ++ spaced ws) (λ same. omega (arith, same)) (All-append (λ byte. byte ≢ 10) w (spaced ws) (line_from_visible w seen.0) (spaced_line ws seen.1))
-
-joined_line : (words : List (List ℕ)) → AllByRecursion (All IsVisible) words → IsLine (joined words)
-joined_line [] seen = All-nil (λ byte. byte ≢ 10)
-joined_line (w ∷ ws) seen = All-append (λ byte. byte ≢ 10) w (spaced ws) (line_from_visible w seen.0) (spaced_line ws seen.1)
-
-visible_number : (n : ℕ) → n < 2 ^ 32 → All IsVisible (decimal n)
-visible_number n few = visible_decimal n (omega arith)
-
-visible_words : (l : Line) → IsLawful l → AllByRecursion (All IsVisible) (line_words l)
-visible_words (line.Group kind.Chain size) lawful =
-    let one : size ≡ 1 = lawful in (
-      All-from_recursion IsVisible (codes "group") (lit< tt, (lit< tt, (lit< tt, (lit< tt, (lit< tt, tt))))),
-      (All-from_recursion IsVisible (codes "chain") (lit< tt, (lit< tt, (lit< tt, (lit< tt, (lit< tt, tt))))), (visible_number size (omega arith), tt)),
-    )
-visible_words (line.Group kind.Primary size) lawful = absurd lawful
-visible_words (line.Group kind.Vr size) lawful = absurd lawful
-visible_words (line.Event (event.Write client object value switch)) lawful = (
-  All-from_recursion IsVisible (codes "write") (lit< tt, (lit< tt, (lit< tt, (lit< tt, (lit< tt, tt))))),
-  (visible_number client lawful.of_client, (visible_number object lawful.of_object, (visible_value value lawful.of_value.bytes, (visible_number switch lawful.of_switch.fits, tt)))),
-)
-visible_words (line.Event (event.Read client object switch)) lawful = (
-  All-from_recursion IsVisible (codes "read") (lit< tt, (lit< tt, (lit< tt, (lit< tt, tt)))),
-  (visible_number client lawful.of_client, (visible_number object lawful.of_object, (visible_number switch lawful.of_switch.fits, tt))),
-)
-visible_words (line.Event event.Next) lawful = (All-from_recursion IsVisible (codes "next") (lit< tt, (lit< tt, (lit< tt, (lit< tt, tt)))), tt)
-visible_words (line.Event other) lawful = absurd lawful
-
--- a lawful line has no end of a line in it
-pub lawful_line : (l : Line) → IsLawful l → IsLine (line_text l)
-lawful_line l lawful = joined_line (line_words l) (visible_words l lawful)
-
-length-spaced : (w : List ℕ) (ws : List (List ℕ)) → length (spaced (w ∷ ws)) ≡ 1 + (length w + length (spaced ws))
-length-spaced w ws = let both : length (w ++ spaced ws) ≡ length w + length (spaced ws) = length-append w (spaced ws) in omega arith
-
-number_len : (n : ℕ) → n < 2 ^ 32 → length (decimal n) ≤ 10
-number_len n few = length-decimal-le 10 n (lit< tt) (omega arith) (omega arith)
-
-value_len : (v : List ℕ) → length v ≤ max_value_len → length (value_text v) ≤ 128
-value_len [] few = lit≤ tt
-value_len (b ∷ bs) few = let size : length (value_text (b ∷ bs)) ≡ 2 * length (b ∷ bs) = length-encode_with lower_digits (b ∷ bs) in omega arith
-
--- a lawful line is short
-pub lawful_len : (l : Line) → IsLawful l → length (line_text l) ≤ max_line_len
-lawful_len (line.Group kind.Chain size) lawful =
-    let one : size ≡ 1 = lawful in
-    let few : length (decimal size) ≤ 10 = number_len size (omega arith) in
-    omega (arith, length-append (codes "group") (spaced (codes "chain" ∷ decimal size ∷ [])), length-spaced (codes "chain") (decimal size ∷ []), length-spaced (decimal size) [])
-lawful_len (line.Group kind.Primary size) lawful = absurd lawful
-lawful_len (line.Group kind.Vr size) lawful = absurd lawful
-lawful_len (line.Event (event.Write client object value switch)) lawful =
-    let a : length (decimal client) ≤ 10 = number_len client lawful.of_client in
-    let b : length (decimal object) ≤ 10 = number_len object lawful.of_object in
-    let d : length (value_text value) ≤ 128 = value_len value lawful.of_value.short in
-    let e : length (decimal switch) ≤ 10 = number_len switch lawful.of_switch.fits in
-    omega (arith, length-append (codes "write") (spaced (decimal client ∷ decimal object ∷ value_text value ∷ decimal switch ∷ [])), length-spaced (decimal client) (decimal object ∷ value_text value ∷ decimal switch ∷ []), length-spaced (decimal object) (value_text value ∷ decimal switch ∷ []), length-spaced (value_text value) (decimal switch ∷ []), length-spaced (decimal switch) [])
-lawful_len (line.Event (event.Read client object switch)) lawful =
-    let a : length (decimal client) ≤ 10 = number_len client lawful.of_client in
-    let b : length (decimal object) ≤ 10 = number_len object lawful.of_object in
-    let e : length (decimal switch) ≤ 10 = number_len switch lawful.of_switch.fits in
-    omega (arith, length-append (codes "read") (spaced (decimal client ∷ decimal object ∷ decimal switch ∷ [])), length-spaced (decimal client) (decimal object ∷ decimal switch ∷ []), length-spaced (decimal object) (decimal switch ∷ []), length-spaced (decimal switch) [])
-lawful_len (line.Event event.Next) lawful = lit≤ tt
-lawful_len (line.Event other) lawful = absurd lawful
-
 -- ---- what stands at the front of the bytes that a source tells
 
 -- what is left of the bytes ahead and those of a source, behind those that were cut off
@@ -156,7 +79,7 @@ cut_is old new bytes front more left now l is moves line lawful same =
     let t = told_moves old new bytes (ended front) left now is moves in
     (one_line front (line_text l) (new ++ t.rest) more line (lawful_line l lawful) (sym t.parts ∙ same)).0
 
-ended_some : (a r : List ℕ) → ended a ++ r ≡ [] → ⊥
+pub ended_some : (a r : List ℕ) → ended a ++ r ≡ [] → ⊥
 ended_some [] r same = cc
 ended_some (x ∷ a) r same = cc
 

@@ -1,13 +1,9 @@
 -- How far a replay has come, and how it ends from there.
-use Rattle.std.proofs.Common.{◌≡◌, ℕ, ◌+◌, ◌-◌, ◌^◌, ◌<◌, ◌≤◌, min, false, List, [], ◌∷◌, ◌++◌, length, map, Option, Some, None, refl, sym, ap, subst, ◌∙◌, inl, inr, append_assoc, arith}
-use Rattle.std.specs.Prelude.{flat_map, IfSome}
-use Rattle.std.specs.List.{AllByRecursion}
-use Rattle.std.proofs.lemmas.List.{append-nil, length-append, length-map, map-append}
-use Rattle.std.proofs.lemmas.Grind.{flat_map-append}
+use Rattle.std.proofs.Common.{◌≡◌, ◌≢◌, ℕ, ◌+◌, ◌-◌, ◌^◌, ◌<◌, ◌≤◌, min, false, List, [], ◌∷◌, ◌++◌, length, Option, Some, None, refl, sym, ap, subst, ◌∙◌, inl, inr, append_assoc, arith}
+use Rattle.std.specs.Prelude.{IfSome}
+use Rattle.std.proofs.lemmas.List.{append-nil, length-append}
 use Rattle.std.specs.Io.KnownBytes.{Consumes, Appends}
 use Rattle.hm_base.specs.Lists.{IsPrefix}
-use Rattle.hm_base.specs.declared.node.GroupKind.{GroupKind}
-use Rattle.hm_base.specs.declared.node.GroupKind.TheVariants as kind
 use Rattle.hm_order.specs.Order.{order}
 use Rattle.hm_order.specs.Legal.{IsLegal}
 use Rattle.hm_order.proofs.Explained.{order_explains}
@@ -20,23 +16,27 @@ use Rattle.hm_rules.specs.RunText as run_texts
 use Rattle.hm_world.specs.Declares.{max_events}
 use Rattle.hm_world.specs.Setups.{setup_of, event_of}
 use Rattle.hm_world.specs.WorldFields.{Held}
-use Rattle.hm_world.specs.declared.event.Setup.{Setup}
 use Rattle.hm_world.specs.declared.event.Event.{Event}
-use Rattle.hm_replay.specs.LineTexts.{IsLine, ended}
-use Rattle.hm_replay.specs.Lines.{Moves, IsFinished}
-use Rattle.hm_replay.specs.Schedules.{IsLawfulGroup, IsLawfulEvent, line_text, default_setup}
-use Rattle.hm_replay.specs.Reasons.{reason_text}
+use Rattle.hm_schedule.specs.LineTexts.{IsLine}
+use Rattle.hm_schedule.specs.Orders.{Stage, IsNext, IsBegun, IsSchedule, IsOutside, after, stage_of, events_at, line_bytes, lines_text, setup_in, events_in}
+use Rattle.hm_schedule.specs.Reasons.{reason_text}
+use Rattle.hm_schedule.specs.declared.line.Line.{Line}
+use Rattle.hm_schedule.specs.declared.line.Line.TheVariants as line
+use Rattle.hm_schedule.specs.declared.line.LineReason.{LineReason}
 use Rattle.hm_frame.specs.Faults.{Rose}
-use Rattle.hm_replay.specs.Outside.{IsOutside}
-use Rattle.hm_replay.specs.Nexts.{ComesGroup, ComesEvent, ComesBadly}
-use Rattle.hm_replay.specs.Replays.{Schedule, IsSchedule, setup_in, events_in, history_in, event_line, schedule_text, IsBegun, begun_text, begun_lines, begun_events, begun_run, end_text, BreaksOff, IsCutRun, IsPartialRun, IsClosing}
+use Rattle.hm_frame.proofs.KnownBytes.{appends_then, consumes_then, appends_none}
+use Rattle.hm_replay.specs.Lines.{Moves}
+use Rattle.hm_replay.specs.Openings.{Says, max_opening, opening_bound}
+use Rattle.hm_replay.specs.Nexts.{ComesEnd, ComesBadly, EventComes, Opens, OpensCut}
+use Rattle.hm_replay.specs.Replays.{world_in, events_text_of, history_in, end_text, BreaksOff, IsCutRun, IsPartialRun, IsClosing}
 use Rattle.hm_replay.specs.Closings.{Closes}
 use Rattle.hm_replay.specs.Statuses.{Faults, Ends}
-use Rattle.hm_replay.specs.declared.schedule.Line.TheVariants as line
-use Rattle.hm_replay.specs.declared.schedule.LineReason.{LineReason}
+use Rattle.hm_replay.specs.declared.opening.Opening.{Opening}
+use Rattle.hm_replay.specs.declared.reading.NextEvent.{NextEvent}
+use Rattle.hm_replay.specs.declared.reading.NextEvent.TheVariants as next_event
 use Rattle.hm_replay.specs.declared.status.Status.{Status}
 use Rattle.hm_replay.specs.declared.status.Status.TheVariants as status
-use Rattle.hm_frame.proofs.KnownBytes.{appends_then, consumes_then, appends_none}
+use Rattle.hm_replay.proofs.LinePushes.{stage_push, setup_push, text_push, event_push, begun_push, few_events, stage_count, setup_is_chain}
 use Rattle.hm_replay.proofs.RunLaws.{run_push, events_text_push}
 
 -- ---- bytes that were taken
@@ -47,114 +47,157 @@ read_on left now later text old new cut before moves =
     subst (λ (l : List ℕ). Consumes left later l) (append_assoc text old moves.taken ∙ ap (λ (l : List ℕ). text ++ l) moves.parts)
     (consumes_then left now later (text ++ old) moves.taken before moves.source)
 
+-- and a line more was cut off
+pub read_line_more : (lines : List Line) (l : Line) (old new : List ℕ) (left now later : Option (List ℕ)) → Consumes left now (lines_text lines ++ old) → Moves old new now later (line_bytes l)
+    → Consumes left later (lines_text (lines ++ l ∷ []) ++ new)
+read_line_more lines l old new left now later read moves =
+    subst (λ (t : List ℕ). Consumes left later t) (sym (append_assoc (lines_text lines) (line_bytes l) new) ∙ ap (λ (t : List ℕ). t ++ new) (sym (text_push lines l)))
+    (read_on left now later (lines_text lines) old new (line_bytes l) read moves)
+
+-- what moved, whatever came
+pub event_moves : (stage : Stage) (next : NextEvent) (old new : List ℕ) (left now : Option (List ℕ)) → EventComes stage next old new left now → (cut : List ℕ) × Moves old new left now cut
+event_moves stage (next_event.Event e) old new left now comes = (line_bytes (line.Event e), comes.1)
+event_moves stage next_event.End old new left now comes = ([], comes.moves)
+event_moves stage (next_event.Bad reason) old new left now comes = (comes.cut, comes.moves)
+
 -- ---- the schedule so far
 
-abbrev pub made : Setup → List Event → Schedule
-made setup events = record { kind = setup.kind; size = setup.size; events = events }
+pub record Progress (w : Held) (opened : ℕ) (lines : List Line) (ahead : List ℕ) (left now held put : Option (List ℕ)) : Type 0 where
+  pub begun : IsBegun lines
+  pub read : Consumes left now (lines_text lines ++ ahead)
+  pub written : Appends held put (events_text_of lines)
+  pub world_is : w.world ≡ world_in lines
+  pub events_are : w.events ≡ length (events_in lines)
+  pub few : w.events ≤ max_events
+  pub opening : opened ≤ max_opening
+  pub count : length lines ≡ opened + w.events
 
-pub record Progress (w : Held) (ahead : List ℕ) (left now held put : Option (List ℕ)) : Type 0 where
-  pub setup : Setup
-  pub events : List Event
-  pub lawful : IsSchedule (made setup events)
-  pub read : Consumes left now (schedule_text (made setup events) ++ ahead)
-  pub written : Appends held put (begun_run (Some (made setup events)))
-  pub world_is : w.world ≡ run (opens (setup_in (made setup events))) (events_in (made setup events)) []
-  pub count : w.events ≡ length events
+-- the opening lines so far
+pub record Opened (o : Opening) (ahead : List ℕ) (left now : Option (List ℕ)) : Type 0 where
+  pub lines : List Line
+  pub says : Says o lines
+  pub read : Consumes left now (lines_text lines ++ ahead)
 
--- behind the group's line
-pub progress_start : (setup : Setup) (w : Held) (old ahead : List ℕ) (left now held : Option (List ℕ)) → old ≡ [] → ComesGroup setup old ahead left now
-    → w.world ≡ opens (setup_of setup) → w.events ≡ 0 → Progress w ahead left now held held
-progress_start setup w old ahead left now held fresh came opened none =
-    let group = ended (line_text (line.Group setup.kind setup.size)) in
-    let taken : came.moves.taken ≡ (group ++ []) ++ ahead = ap (λ (l : List ℕ). l ++ came.moves.taken) (sym fresh) ∙ came.moves.parts ∙ ap (λ (l : List ℕ). l ++ ahead) (sym (append-nil group)) in
+-- and what comes next, which was read already
+pub record Ahead (w : Held) (opened : ℕ) (next : NextEvent) (new : List ℕ) (left now held put : Option (List ℕ)) : Type 0 where
+  pub lines : List Line
+  pub old : List ℕ
+  pub between : Option (List ℕ)
+  pub progress : Progress w opened lines old left between held put
+  pub comes : EventComes (stage_of lines) next old new between now
+
+-- nothing happens in the opening lines
+pub no_text : (lines : List Line) → events_in lines ≡ [] → events_text_of lines ≡ []
+no_text lines none = ap (λ (es : List rule.Event). run_texts.events_text 1 (opens (setup_in lines)) es []) none
+
+no_world : (lines : List Line) → events_in lines ≡ [] → world_in lines ≡ opens (setup_in lines)
+no_world lines none = ap (λ (es : List rule.Event). run (opens (setup_in lines)) es []) none
+
+-- behind the opening lines
+pub ahead_start : (o : Opening) (next : NextEvent) (w : Held) (new : List ℕ) (left now held : Option (List ℕ)) → Opens o next new left now
+    → w.world ≡ opens (setup_of o.setup) → w.events ≡ 0 → Ahead w o.lines next new left now held held
+ahead_start o next w new left now held opened world none =
+    let says = opened.says in
+    let count : o.lines ≡ length opened.lines = says.count in
+    let few : length opened.lines ≤ opening_bound (stage_of opened.lines) = says.few in
+    let bound : opening_bound (stage_of opened.lines) ≤ max_opening = says.bound in
+    let size : length (events_in opened.lines) ≡ 0 = ap length says.no_event in
     record {
-      setup = setup;
-      events = [];
-      lawful = record { group = came.group; lawful = tt; few = omega arith };
-      read = subst (λ (l : List ℕ). Consumes left now l) taken came.moves.source;
-      written = appends_none held;
-      world_is = opened ∙ ap opens came.setup_is;
-      count = none;
+      lines = opened.lines;
+      old = opened.ahead;
+      between = opened.between;
+      progress = record {
+        begun = says.begun;
+        read = opened.read;
+        written = subst (λ (t : List ℕ). Appends held held t) (sym (no_text opened.lines says.no_event)) (appends_none held);
+        world_is = world ∙ ap opens says.setup_is ∙ sym (no_world opened.lines says.no_event);
+        events_are = none ∙ sym size;
+        few = omega arith;
+        opening = omega arith;
+        count = omega arith;
+      };
+      comes = opened.comes;
     }
-
-all_push : (es : List Event) (e : Event) → AllByRecursion IsLawfulEvent es → IsLawfulEvent e → AllByRecursion IsLawfulEvent (es ++ e ∷ [])
-all_push [] e all one = (one, tt)
-all_push (x ∷ es) e all one = (all.0, all_push es e all.1 one)
-
-events_push : (setup : Setup) (es : List Event) (e : Event) → schedule_text (made setup (es ++ e ∷ [])) ≡ schedule_text (made setup es) ++ event_line e
-events_push setup es e =
-    let group = ended (line_text (line.Group setup.kind setup.size)) in
-    ap (λ (l : List ℕ). group ++ l) (flat_map-append event_line es (e ∷ []) ∙ ap (λ (l : List ℕ). flat_map event_line es ++ l) (append-nil (event_line e)))
-    ∙ sym (append_assoc group (flat_map event_line es) (event_line e))
 
 -- ---- one event more
 
-grown_lawful : (setup : Setup) (es : List Event) (e : Event) (events : ℕ) → IsSchedule (made setup es) → IsLawfulEvent e → events ≡ length es → events < max_events → IsSchedule (made setup (es ++ e ∷ []))
-grown_lawful setup es e events lawful one count few = record {
-  group = lawful.group;
-  lawful = all_push es e lawful.lawful one;
-  few = omega (arith, length-append es (e ∷ []));
-}
-
-grown_read : (setup : Setup) (es : List Event) (e : Event) (ahead new : List ℕ) (left now later : Option (List ℕ)) → Consumes left now (schedule_text (made setup es) ++ ahead) → Moves ahead new now later (event_line e)
-    → Consumes left later (schedule_text (made setup (es ++ e ∷ [])) ++ new)
-grown_read setup es e ahead new left now later read moves =
-    subst (λ (l : List ℕ). Consumes left later l) (sym (append_assoc (schedule_text (made setup es)) (event_line e) new) ∙ ap (λ (l : List ℕ). l ++ new) (sym (events_push setup es e)))
-    (read_on left now later (schedule_text (made setup es)) ahead new (event_line e) read moves)
-
--- the world before the event
-abbrev before : Setup → List Event → World
-before setup es = run (opens (setup_in (made setup es))) (map event_of es) []
-
-grown_world : (setup : Setup) (w v : World) (es : List Event) (e : Event) → w ≡ before setup es → v ≡ (happens w (event_of e) false).world → v ≡ before setup (es ++ e ∷ [])
-grown_world setup w v es e is happened =
-    let begin = opens (default_setup setup.kind setup.size) in
+grown_world : (lines : List Line) (e : Event) (w v : World) → w ≡ world_in lines → v ≡ (happens w (event_of e) false).world → v ≡ world_in (lines ++ line.Event e ∷ [])
+grown_world lines e w v is happened =
     happened
     ∙ ap (λ (x : World). (happens x (event_of e) false).world) is
-    ∙ sym (run_push 1 begin (map event_of es) (event_of e))
-    ∙ ap (λ (l : List rule.Event). run begin l []) (sym (map-append event_of es (e ∷ [])))
+    ∙ sym (run_push 1 (opens (setup_in lines)) (events_in lines) (event_of e))
+    ∙ ap (λ (es : List rule.Event). run (opens (setup_in lines)) es []) (sym (event_push lines e))
+    ∙ ap (λ (s : rule.Setup). run (opens s) (events_in (lines ++ line.Event e ∷ [])) []) (sym (setup_push lines (line.Event e)))
 
-grown_text : (setup : Setup) (w : World) (es : List Event) (e : Event) (events : ℕ) (text : List ℕ) → w ≡ before setup es → events ≡ length es
+grown_text : (lines : List Line) (e : Event) (w : World) (events : ℕ) (text : List ℕ) → w ≡ world_in lines → events ≡ length (events_in lines)
     → text ≡ run_texts.event_text (events + 1) w (happens w (event_of e) false)
-    → begun_run (Some (made setup es)) ++ text ≡ begun_run (Some (made setup (es ++ e ∷ [])))
-grown_text setup w es e events text is count same =
-    let begin = opens (default_setup setup.kind setup.size) in
-    let mapped = map event_of es in
+    → events_text_of lines ++ text ≡ events_text_of (lines ++ line.Event e ∷ [])
+grown_text lines e w events text is count same =
+    let begin = opens (setup_in lines) in
     let last : ℕ → World → List ℕ = λ n x. run_texts.event_text n x (happens x (event_of e) false) in
-    let size : length mapped ≡ length es = length-map es event_of in
-    let number : events + 1 ≡ length mapped + 1 = omega arith in
-    let so_far = run_texts.events_text 1 begin mapped [] in
-    ap (λ (l : List ℕ). so_far ++ l) (same ∙ ap (λ (n : ℕ). last n w) number ∙ ap (last (length mapped + 1)) is)
-    ∙ sym (events_text_push 1 begin mapped (event_of e))
-    ∙ ap (λ (l : List rule.Event). run_texts.events_text 1 begin l []) (sym (map-append event_of es (e ∷ [])))
+    let number : events + 1 ≡ length (events_in lines) + 1 = omega arith in
+    ap (λ (l : List ℕ). events_text_of lines ++ l) (same ∙ ap (λ (n : ℕ). last n w) number ∙ ap (last (length (events_in lines) + 1)) is)
+    ∙ sym (events_text_push 1 begin (events_in lines) (event_of e))
+    ∙ ap (λ (es : List rule.Event). run_texts.events_text 1 begin es []) (sym (event_push lines e))
+    ∙ ap (λ (s : rule.Setup). run_texts.events_text 1 (opens s) (events_in (lines ++ line.Event e ∷ [])) []) (sym (setup_push lines (line.Event e)))
 
 -- behind one event more
-pub progress_more : (w v : Held) (ahead new : List ℕ) (left now later held put after : Option (List ℕ)) (e : Event) (text : List ℕ)
-    → Progress w ahead left now held put → ComesEvent w.events e ahead new now later
+pub progress_more : (w v : Held) (opened : ℕ) (lines : List Line) (old new : List ℕ) (left now later held put after : Option (List ℕ)) (e : Event) (text : List ℕ)
+    → Progress w opened lines old left now held put → EventComes (stage_of lines) (next_event.Event e) old new now later
     → v.world ≡ (happens w.world (event_of e) false).world → v.events ≡ w.events + 1
     → text ≡ run_texts.event_text (w.events + 1) w.world (happens w.world (event_of e) false) → Appends put after text
-    → Progress v new left later held after
-progress_more w v ahead new left now later held put after e text p came happened more is written =
-    let count : w.events ≡ length p.events = p.count in
+    → Progress v opened (lines ++ line.Event e ∷ []) new left later held after
+progress_more w v opened lines old new left now later held put after e text p came happened more is written =
+    let count : w.events ≡ length (events_in lines) = p.events_are in
+    let at : events_at (stage_of lines) ≡ length (events_in lines) = stage_count lines p.begun in
+    let few : events_at (stage_of lines) < max_events = few_events (stage_of lines) e came.0.1 in
+    let number : length lines ≡ opened + w.events = p.count in
+    let size : length (lines ++ line.Event e ∷ []) ≡ length lines + 1 = length-append lines (line.Event e ∷ []) in
+    let events : length (events_in (lines ++ line.Event e ∷ [])) ≡ length (events_in lines) + 1 = ap length (event_push lines e) ∙ length-append (events_in lines) (event_of e ∷ []) in
     record {
-      setup = p.setup;
-      events = p.events ++ e ∷ [];
-      lawful = grown_lawful p.setup p.events e w.events p.lawful came.lawful p.count came.few;
-      read = grown_read p.setup p.events e ahead new left now later p.read came.moves;
-      written = subst (λ (l : List ℕ). Appends held after l) (grown_text p.setup w.world p.events e w.events text p.world_is p.count is) (appends_then held put after (begun_run (Some (made p.setup p.events))) text p.written written);
-      world_is = grown_world p.setup w.world v.world p.events e p.world_is happened;
-      count = omega (arith, length-append p.events (e ∷ []));
+      begun = begun_push lines (line.Event e) p.begun came.0;
+      read = read_line_more lines (line.Event e) old new left now later p.read came.1;
+      written = subst (λ (l : List ℕ). Appends held after l) (grown_text lines e w.world w.events text p.world_is p.events_are is) (appends_then held put after (events_text_of lines) text p.written written);
+      world_is = grown_world lines e w.world v.world p.world_is happened;
+      events_are = omega arith;
+      few = omega arith;
+      opening = p.opening;
+      count = omega arith;
     }
+
+-- what comes next comes behind so many events
+pub ahead_more : (v : Held) (opened : ℕ) (lines : List Line) (e : Event) (next : NextEvent) (old new : List ℕ) (left now later held put : Option (List ℕ))
+    → Progress v opened (lines ++ line.Event e ∷ []) old left now held put → EventComes (Stage.Running v.events) next old new now later
+    → Ahead v opened next new left later held put
+ahead_more v opened lines e next old new left now later held put p comes =
+    let at : events_at (stage_of (lines ++ line.Event e ∷ [])) ≡ v.events = stage_count (lines ++ line.Event e ∷ []) p.begun ∙ sym p.events_are in
+    let stage : stage_of (lines ++ line.Event e ∷ []) ≡ Stage.Running (events_at (stage_of lines) + 1) = stage_push lines (line.Event e) in
+    let same : Stage.Running v.events ≡ stage_of (lines ++ line.Event e ∷ []) = ap Stage.Running (sym at ∙ ap events_at stage) ∙ sym stage in
+    record {
+      lines = lines ++ line.Event e ∷ [];
+      old = old;
+      between = now;
+      progress = p;
+      comes = subst (λ (s : Stage). EventComes s next old new now later) same comes;
+    }
+
+-- where an event comes next, there may be one more
+pub few_more : (w : Held) (opened : ℕ) (new : List ℕ) (left now held put : Option (List ℕ)) (e : Event) → Ahead w opened (next_event.Event e) new left now held put → w.events < max_events
+few_more w opened new left now held put e a =
+    let few : events_at (stage_of a.lines) < max_events = few_events (stage_of a.lines) e a.comes.0.1 in
+    let at : events_at (stage_of a.lines) ≡ length (events_in a.lines) = stage_count a.lines a.progress.begun in
+    let count : w.events ≡ length (events_in a.lines) = a.progress.events_are in
+    omega arith
 
 -- ---- how a replay ends
 
-breaks_off : (begun : Option Schedule) (ahead : List ℕ) (left now : Option (List ℕ)) → Consumes left now (begun_text begun ++ ahead)
-    → ((bytes : List ℕ) → now ≡ Some bytes → IsOutside (begun_events begun) (ahead ++ bytes)) → IfSome left (BreaksOff begun)
+breaks_off : (begun : List Line) (ahead : List ℕ) (left now : Option (List ℕ)) → Consumes left now (lines_text begun ++ ahead)
+    → ((bytes : List ℕ) → now ≡ Some bytes → IsOutside (stage_of begun) (ahead ++ bytes)) → IfSome left (BreaksOff begun)
 breaks_off begun ahead None now read outside = tt
 breaks_off begun ahead (Some xs) None read outside = absurd read
 breaks_off begun ahead (Some xs) (Some ys) read outside = record {
   rest = ahead ++ ys;
-  parts = read ∙ append_assoc (begun_text begun) ahead ys;
+  parts = read ∙ append_assoc (lines_text begun) ahead ys;
   outside = outside ys refl;
 }
 
@@ -162,8 +205,8 @@ pub rose_since : (before middle after : ℕ) → before ≤ middle → Rose midd
 rose_since before middle after later rose = let rose' : min (middle + 1) (2 ^ 64 - 1) ≤ after = rose in omega arith
 
 -- a front of the text was put
-pub partial : (begun : Option Schedule) (ahead closing front : List ℕ) (left now held mid put : Option (List ℕ)) → IsBegun begun → Consumes left now (begun_text begun ++ ahead)
-    → IsClosing begun ahead left now closing → IsPrefix front closing → Appends held mid (begun_run begun) → Appends mid put front → IsPartialRun left now held put
+pub partial : (begun : List Line) (ahead closing front : List ℕ) (left now held mid put : Option (List ℕ)) → IsBegun begun → Consumes left now (lines_text begun ++ ahead)
+    → IsClosing begun ahead left now closing → IsPrefix front closing → Appends held mid (events_text_of begun) → Appends mid put front → IsPartialRun left now held put
 partial begun ahead closing front left now held mid put lawful read closes is_front written more = record {
   begun = begun;
   lawful = lawful;
@@ -171,93 +214,139 @@ partial begun ahead closing front left now held mid put lawful read closes is_fr
   read = read;
   closing = closing;
   closes = closes;
-  text = begun_run begun ++ front;
-  front = record { rest = is_front.rest; parts = append_assoc (begun_run begun) front is_front.rest ∙ ap (λ (l : List ℕ). begun_run begun ++ l) is_front.parts };
-  written = appends_then held mid put (begun_run begun) front written more;
+  text = events_text_of begun ++ front;
+  front = record { rest = is_front.rest; parts = append_assoc (events_text_of begun) front is_front.rest ∙ ap (λ (l : List ℕ). events_text_of begun ++ l) is_front.parts };
+  written = appends_then held mid put (events_text_of begun) front written more;
 }
 
 -- the end of the text was put, or a front of it
-ends_closed : (whole result : Status) (begun : Option Schedule) (ahead closing : List ℕ) (left now held mid put : Option (List ℕ)) (f : Faults) (middle : ℕ)
-    → IsBegun begun → Consumes left now (begun_text begun ++ ahead) → IsClosing begun ahead left now closing → Appends held mid (begun_run begun) → f.put_before ≤ middle
-    → (Appends held put (begun_run begun ++ closing) → Ends whole left now held put f)
+ends_closed : (whole result : Status) (begun : List Line) (ahead closing : List ℕ) (left now held mid put : Option (List ℕ)) (f : Faults) (middle : ℕ)
+    → IsBegun begun → Consumes left now (lines_text begun ++ ahead) → IsClosing begun ahead left now closing → Appends held mid (events_text_of begun) → f.put_before ≤ middle
+    → (Appends held put (events_text_of begun ++ closing) → Ends whole left now held put f)
     → Closes result whole closing mid put middle f.put_after → Ends result left now held put f
 ends_closed whole result begun ahead closing left now held mid put f middle lawful read closes written later ends (inl all) =
-    subst (λ (s : Status). Ends s left now held put f) (sym all.status) (ends (appends_then held mid put (begun_run begun) closing written all.written))
+    subst (λ (s : Status). Ends s left now held put f) (sym all.status) (ends (appends_then held mid put (events_text_of begun) closing written all.written))
 ends_closed whole result begun ahead closing left now held mid put f middle lawful read closes written later ends (inr (inl part)) =
     subst (λ (s : Status). Ends s left now held put f) (sym part.status) (rose_since f.put_before middle f.put_after later part.rose, partial begun ahead closing part.front left now held mid put lawful read closes part.is_front written part.written)
 ends_closed whole result begun ahead closing left now held mid put f middle lawful read closes written later ends (inr (inr none)) =
     subst (λ (s : Status). Ends s left now held put f) (sym none.status) (partial begun ahead closing [] left now held mid put lawful read closes (record { rest = closing; parts = refl }) written none.written)
 
 -- where a line outside the grammar comes
-pub ends_badly : (result : Status) (begun : Option Schedule) (old new : List ℕ) (left now later held mid put : Option (List ℕ)) (f : Faults) (middle number : ℕ) (reason : LineReason)
-    → IsBegun begun → Consumes left now (begun_text begun ++ old) → Appends held mid (begun_run begun) → f.put_before ≤ middle
-    → ComesBadly (begun_events begun) old new now later reason → number ≡ begun_lines begun + 1
+pub ends_badly : (result : Status) (begun : List Line) (old new : List ℕ) (left now later held mid put : Option (List ℕ)) (f : Faults) (middle number : ℕ) (reason : LineReason)
+    → IsBegun begun → Consumes left now (lines_text begun ++ old) → Appends held mid (events_text_of begun) → f.put_before ≤ middle
+    → ComesBadly (stage_of begun) old new now later reason → number ≡ length begun + 1
     → Closes result (status.BadLine number reason) (run_texts.bad_text number (reason_text reason)) mid put middle f.put_after
     → Ends result left later held put f
 ends_badly result begun old new left now later held mid put f middle number reason lawful read written sooner came number_is closed =
     let breaks = breaks_off begun old left now read came.outside in
-    let closing_is = ap (λ (n : ℕ). run_texts.bad_text n (reason_text reason)) number_is ∙ ap (λ (r : LineReason). run_texts.bad_text (begun_lines begun + 1) (reason_text r)) came.reason_is in
+    let closing_is = ap (λ (n : ℕ). run_texts.bad_text n (reason_text reason)) number_is ∙ ap (λ (r : LineReason). run_texts.bad_text (length begun + 1) (reason_text r)) came.reason_is in
     ends_closed (status.BadLine number reason) result begun (came.cut ++ new) (run_texts.bad_text number (reason_text reason)) left later held mid put f middle lawful
-    (read_on left now later (begun_text begun) old new came.cut read came.moves)
+    (read_on left now later (lines_text begun) old new came.cut read came.moves)
     (inr (inr (record { breaks = breaks; closing_is = closing_is }))) written sooner
     (λ whole. record { begun = begun; lawful = lawful; number_is = number_is; reason_is = came.reason_is; breaks = breaks; written = whole }) closed
 
--- a schedule's group is a chain of one
-group_is : (k : GroupKind) (size : ℕ) → IsLawfulGroup k size → (k ≡ kind.Chain) × (size ≡ 1)
-group_is kind.Chain size h = (refl, h)
-group_is kind.Primary size h = absurd h
-group_is kind.Vr size h = absurd h
-
 -- the order of a schedule's run is one that a single object store could have given
-run_is_legal : (s : Schedule) → IsLawfulGroup s.kind s.size → IsLegal (history_in s) (order (history_in s))
-run_is_legal s h =
-    let group = group_is s.kind s.size h in
-    let sound = sound_run (setup_in s) (events_in s) [] group.0 in
-    order_explains (history_in s) sound.core.agree.formed sound.core.agree.due
+run_is_legal : (lines : List Line) → IsBegun lines → IsLegal (history_in lines) (order (history_in lines))
+run_is_legal lines begun =
+    let sound = sound_run (setup_in lines) (events_in lines) [] (setup_is_chain lines begun) in
+    order_explains (history_in lines) sound.core.agree.formed sound.core.agree.due
+
+some_line : (lines : List Line) → stage_of lines ≢ Stage.Fresh → lines ≢ []
+some_line lines begun none = begun (ap stage_of none)
 
 -- where the input ends behind a line
-pub ends_whole : (result : Status) (w : Held) (old new : List ℕ) (left now later held mid put : Option (List ℕ)) (f : Faults) (middle : ℕ)
-    → Progress w old left now held mid → f.put_before ≤ middle → Moves old new now later [] → IsFinished new later
+pub ends_whole : (result : Status) (w : Held) (opened : ℕ) (new : List ℕ) (left later held mid put : Option (List ℕ)) (f : Faults) (middle : ℕ)
+    → Ahead w opened next_event.End new left later held mid → f.put_before ≤ middle
     → Closes result status.Done (run_texts.order_text (order w.world.history)) mid put middle f.put_after
     → Ends result left later held put f
-ends_whole result w old new left now later held mid put f middle p sooner moves end closed =
-    let s = made p.setup p.events in
-    let read = read_on left now later (schedule_text s) old new [] p.read moves in
-    let whole : Consumes left later (schedule_text s) = subst (λ (l : List ℕ). Consumes left later l) (ap (λ (l : List ℕ). schedule_text s ++ l) end.none ∙ append-nil (schedule_text s)) read in
-    let same : run_texts.order_text (order w.world.history) ≡ end_text s = ap (λ (x : World). run_texts.order_text (order x.history)) p.world_is in
-    ends_closed status.Done result (Some s) new (run_texts.order_text (order w.world.history)) left later held mid put f middle p.lawful read
-    (inr (inl (record { none = end.none; end = end.end; closing_is = same }))) p.written sooner
-    (λ written. record { schedule = s; lawful = p.lawful; read = whole; end = end.end; written = subst (λ (l : List ℕ). Appends held put (begun_run (Some s) ++ l)) same written; legal = run_is_legal s p.lawful.group }) closed
+ends_whole result w opened new left later held mid put f middle a sooner closed =
+    let lines = a.lines in
+    let p = a.progress in
+    let came = a.comes in
+    let schedule : IsSchedule lines = record { begun = p.begun; group = some_line lines came.begun } in
+    let read = read_on left a.between later (lines_text lines) a.old new [] p.read came.moves in
+    let whole : Consumes left later (lines_text lines) = subst (λ (l : List ℕ). Consumes left later l) (ap (λ (l : List ℕ). lines_text lines ++ l) came.finished.none ∙ append-nil (lines_text lines)) read in
+    let same : run_texts.order_text (order w.world.history) ≡ end_text lines = ap (λ (x : World). run_texts.order_text (order x.history)) p.world_is in
+    ends_closed status.Done result lines new (run_texts.order_text (order w.world.history)) left later held mid put f middle p.begun read
+    (inr (inl (record { schedule = schedule; none = came.finished.none; end = came.finished.end; closing_is = same }))) p.written sooner
+    (λ written. record { schedule = lines; lawful = schedule; read = whole; end = came.finished.end; written = subst (λ (l : List ℕ). Appends held put (events_text_of lines ++ l)) same written; legal = run_is_legal lines p.begun }) closed
+
+-- where a line outside the grammar comes next
+pub ends_badly_ahead : (result : Status) (w : Held) (opened : ℕ) (new : List ℕ) (left later held mid put : Option (List ℕ)) (f : Faults) (middle number : ℕ) (reason : LineReason)
+    → Ahead w opened (next_event.Bad reason) new left later held mid → f.put_before ≤ middle → number ≡ opened + w.events + 1
+    → Closes result (status.BadLine number reason) (run_texts.bad_text number (reason_text reason)) mid put middle f.put_after
+    → Ends result left later held put f
+ends_badly_ahead result w opened new left later held mid put f middle number reason a sooner number_is closed =
+    let p = a.progress in
+    let count : length a.lines ≡ opened + w.events = p.count in
+    ends_badly result a.lines a.old new left a.between later held mid put f middle number reason p.begun p.read p.written sooner a.comes (omega arith) closed
 
 -- where a read fails
-pub ends_cut : (begun : Option Schedule) (old new : List ℕ) (left now later held put : Option (List ℕ)) → IsBegun begun → Consumes left now (begun_text begun ++ old) → Appends held put (begun_run begun)
+pub ends_cut : (begun : List Line) (old new : List ℕ) (left now later held put : Option (List ℕ)) → IsBegun begun → Consumes left now (lines_text begun ++ old) → Appends held put (events_text_of begun)
     → Moves old new now later [] → IsLine new → IsCutRun left later held put
 ends_cut begun old new left now later held put lawful read written moves part = record {
   begun = begun;
   lawful = lawful;
   part = new;
   part_is = part;
-  read = read_on left now later (begun_text begun) old new [] read moves;
+  read = read_on left now later (lines_text begun) old new [] read moves;
   written = written;
 }
 
 -- where memory is wanting
-pub ends_empty : (begun : Option Schedule) (ahead : List ℕ) (left now held put : Option (List ℕ)) → IsBegun begun → Consumes left now (begun_text begun ++ ahead) → Appends held put (begun_run begun) → IsPartialRun left now held put
+pub ends_empty : (begun : List Line) (ahead : List ℕ) (left now held put : Option (List ℕ)) → IsBegun begun → Consumes left now (lines_text begun ++ ahead) → Appends held put (events_text_of begun) → IsPartialRun left now held put
 ends_empty begun ahead left now held put lawful read written =
     partial begun ahead [] [] left now held put put lawful read (inl refl) (record { rest = []; parts = refl }) written (appends_none put)
 
+-- where a read fails behind an event that was put
+pub ends_cut_ahead : (w v : Held) (opened : ℕ) (old new : List ℕ) (left now later held put after : Option (List ℕ)) (e : Event) (text : List ℕ)
+    → Ahead w opened (next_event.Event e) old left now held put
+    → v.world ≡ (happens w.world (event_of e) false).world → v.events ≡ w.events + 1
+    → text ≡ run_texts.event_text (w.events + 1) w.world (happens w.world (event_of e) false) → Appends put after text
+    → Moves old new now later [] → IsLine new → IsCutRun left later held after
+ends_cut_ahead w v opened old new left now later held put after e text a happened more is written moves part =
+    let p = progress_more w v opened a.lines a.old old left a.between now held put after e text a.progress a.comes happened more is written in
+    ends_cut (a.lines ++ line.Event e ∷ []) old new left now later held after p.begun p.read p.written moves part
+
+-- where a read fails within the opening lines
+pub ends_cut_opening : (part : List ℕ) (left now held : Option (List ℕ)) → OpensCut part left now → IsCutRun left now held held
+ends_cut_opening part left now held cut = record {
+  begun = cut.lines;
+  lawful = cut.begun;
+  part = part;
+  part_is = cut.part_is;
+  read = cut.read;
+  written = subst (λ (t : List ℕ). Appends held held t) (sym (no_text cut.lines cut.no_event)) (appends_none held);
+}
+
+-- where memory is wanting behind what comes next
+pub ends_ahead : (w : Held) (opened : ℕ) (next : NextEvent) (new : List ℕ) (left later held put : Option (List ℕ)) → Ahead w opened next new left later held put → IsPartialRun left later held put
+ends_ahead w opened next new left later held put a =
+    let p = a.progress in
+    let moved = event_moves (stage_of a.lines) next a.old new a.between later a.comes in
+    ends_empty a.lines (moved.0 ++ new) left later held put p.begun (read_on left a.between later (lines_text a.lines) a.old new moved.0 p.read moved.1) p.written
+
+-- where memory is wanting behind the opening lines
+pub ends_opening : (o : Opening) (next : NextEvent) (new : List ℕ) (left later held : Option (List ℕ)) → Opens o next new left later → IsPartialRun left later held held
+ends_opening o next new left later held opened =
+    let moved = event_moves (stage_of opened.lines) next opened.ahead new opened.between later opened.comes in
+    ends_empty opened.lines (moved.0 ++ new) left later held held opened.says.begun (read_on left opened.between later (lines_text opened.lines) opened.ahead new moved.0 opened.read moved.1)
+    (subst (λ (t : List ℕ). Appends held held t) (sym (no_text opened.lines opened.says.no_event)) (appends_none held))
+
 -- where a put of an event's text fails
-pub ends_event : (w : Held) (old new front text : List ℕ) (left now later held mid put : Option (List ℕ)) (e : Event)
-    → Progress w old left now held mid → ComesEvent w.events e old new now later
+pub ends_event : (w : Held) (opened : ℕ) (new front text : List ℕ) (left later held mid put : Option (List ℕ)) (e : Event)
+    → Ahead w opened (next_event.Event e) new left later held mid
     → text ≡ run_texts.event_text (w.events + 1) w.world (happens w.world (event_of e) false) → IsPrefix front text → Appends mid put front
     → IsPartialRun left later held put
-ends_event w old new front text left now later held mid put e p came is is_front written =
-    let so_far = begun_run (Some (made p.setup p.events)) in
+ends_event w opened new front text left later held mid put e a is is_front written =
+    let p = a.progress in
+    let so_far = events_text_of a.lines in
+    let more = a.lines ++ line.Event e ∷ [] in
     record {
-      begun = Some (made p.setup (p.events ++ e ∷ []));
-      lawful = grown_lawful p.setup p.events e w.events p.lawful came.lawful p.count came.few;
+      begun = more;
+      lawful = begun_push a.lines (line.Event e) p.begun a.comes.0;
       ahead = new;
-      read = grown_read p.setup p.events e old new left now later p.read came.moves;
+      read = read_line_more a.lines (line.Event e) a.old new left a.between later p.read a.comes.1;
       closing = [];
       closes = inl refl;
       text = so_far ++ front;
@@ -266,8 +355,8 @@ ends_event w old new front text left now later held mid put e p came is is_front
         parts =
             append_assoc so_far front is_front.rest
             ∙ ap (λ (l : List ℕ). so_far ++ l) is_front.parts
-            ∙ grown_text p.setup w.world p.events e w.events text p.world_is p.count is
-            ∙ sym (append-nil (begun_run (Some (made p.setup (p.events ++ e ∷ [])))));
+            ∙ grown_text a.lines e w.world w.events text p.world_is p.events_are is
+            ∙ sym (append-nil (events_text_of more));
       };
       written = appends_then held mid put so_far front p.written written;
     }

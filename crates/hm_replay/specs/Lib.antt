@@ -1,13 +1,9 @@
 pub mod Buffers
 pub mod Closings
 pub mod Fills
-pub mod LineTexts
-pub mod LineWords
 pub mod Lines
 pub mod Nexts
-pub mod Outside
-pub mod Ranges
-pub mod Reasons
+pub mod Openings
 pub mod Replays
-pub mod Schedules
+pub mod Stages
 pub mod Statuses

@@ -1,7 +1,7 @@
 -- An input as lines, each ended by the byte 10.
 use Rattle.std.specs.Prelude.{◌≡◌, ℕ, ◌+◌, ◌<◌, ◌≤◌, List, [], ◌∷◌, ◌++◌, length, take, Option, Result, MatchResult}
 use Rattle.std.specs.Io.KnownBytes.{Consumes, IsAtEnd}
-use Rattle.hm_replay.specs.LineTexts.{IsLine, ended}
+use Rattle.hm_schedule.specs.LineTexts.{IsLine, ended}
 use Rattle.hm_replay.specs.declared.lines.TheConstants.{MAX_LINE_LEN}
 use Rattle.hm_replay.specs.declared.lines.Found.{Found}
 use Rattle.hm_replay.specs.declared.lines.Found.TheVariants as found

@@ -2,12 +2,14 @@
 #![tactic(auto)]
 
 mod events;
-mod fields;
 pub mod lines;
+mod opening;
 mod reading;
 pub mod replay;
+#[cfg(test)]
+mod rows;
 mod run_text;
-pub mod schedule;
+pub mod stage;
 pub mod status;
 #[cfg(test)]
 mod tests;

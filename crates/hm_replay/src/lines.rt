@@ -1,6 +1,6 @@
 ghost use Rattle.std.specs.Prelude.{◌≡◌, ◌+◌, ◌-◌, ◌<◌, ◌≤◌, [], ◌++◌, length, take, drop, slice_range, vec_len, IfOk, IfSome, IfNone};
 ghost use Rattle.hm_frame.specs.Faults.{HasCause};
-ghost use Rattle.hm_replay.specs.LineTexts.{IsLine, ended};
+ghost use Rattle.hm_schedule.specs.LineTexts.{IsLine, ended};
 ghost use Rattle.hm_replay.specs.Fills.{Fills, filled_count};
 
 use hm_base::memory::NoMemory;

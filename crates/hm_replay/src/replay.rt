@@ -6,21 +6,23 @@ ghost use Rattle.hm_frame.specs.Frames.{frame};
 ghost use Rattle.hm_show.specs.Shows.{max_frames};
 ghost use Rattle.hm_order.specs.Order.{order};
 ghost use Rattle.hm_rules.specs.RunText.{order_text, bad_text};
-ghost use Rattle.hm_replay.specs.Reasons.{reason_text};
+ghost use Rattle.hm_schedule.specs.Reasons.{reason_text};
 ghost use Rattle.hm_replay.specs.Closings.{Closes};
 ghost use Rattle.hm_replay.specs.Statuses.{Ends, EndsShow};
 ghost use Rattle.hm_frame.specs.Faults.{Rose};
 ghost use Rattle.hm_replay.specs.Replays.{IsWholeRun, IsBadRun, IsCutRun, IsPartialRun};
-ghost use Rattle.hm_replay.specs.declared.schedule.LineReason.{LineReason};
+ghost use Rattle.hm_schedule.specs.Orders.{IsSchedule, lines_text};
+ghost use Rattle.hm_schedule.specs.declared.line.Line.{Line};
+ghost use Rattle.hm_schedule.specs.declared.line.LineReason.{LineReason};
 
 use crate::events::write_event;
 use crate::lines::LineReader;
-use crate::reading::{NextEvent, next_event, next_setup};
+use crate::reading::{NextEvent, next_event, read_opening};
 use crate::run_text::{write_bad, write_order};
-use crate::schedule::LineReason;
 use crate::status::{Status, status_of};
 use crate::words::is_word;
 use hm_frame::outside::{Sink, Source, put_all};
+use hm_schedule::line::LineReason;
 use hm_show::show::show;
 use hm_world::world::World;
 use std::alloc::Global;
@@ -56,6 +58,13 @@ pub fn run<S: Source, K: Sink>(
     ensures partial { map string_bytes words.now ≡ codes "replay" ∷ [] → (result ≡ Status.WriteFault) ⊎ (result ≡ Status.NoMemory)
         → IsPartialRun (S.left source.old) (S.left source.new) (K.held sink.old) (K.held sink.new) }
 
+    // A schedule that is read without a fault, and whose text is put without one, is replayed whole, unless memory is wanting.
+    ensures complete { (lines : List Line) → IsSchedule lines → S.left source.old ≡ Some (lines_text lines)
+        → map string_bytes words.now ≡ codes "replay" ∷ []
+        → (Rose (S.faults source.old) (S.faults source.new) → ⊥)
+        → (Rose (K.faults sink.old) (K.faults sink.new) → ⊥)
+        → (result ≡ Status.Done) ⊎ (result ≡ Status.NoMemory) }
+
     // What a show read, and what it put.
     ensures show { map string_bytes words.now ≡ codes "show" ∷ []
         → EndsShow result (S.left source.old) (S.left source.new) (K.held sink.old) (K.held sink.new)
@@ -84,17 +93,16 @@ fn replay<S: Source, K: Sink>(alloc: Global, source: &mut S, sink: &mut K) -> St
         return Status::NoMemory;
     };
     let mut text = Vec::new(alloc);
-    let setup = match next_setup(&mut reader, source) {
-        Ok(Ok(setup)) => setup,
-        Ok(Err(reason)) => return refuse(1, reason, &mut text, sink),
+    let (opening, mut next) = match read_opening(&mut reader, source) {
+        Ok(opened) => opened,
         Err(_) => return Status::ReadFault,
     };
-    let Ok(mut world) = World::open(alloc, &setup) else {
+    let Ok(mut world) = World::open(alloc, &opening.setup) else {
         return Status::NoMemory;
     };
     loop {
-        match next_event(&mut reader, source, world.events()) {
-            Ok(NextEvent::Event(event)) => {
+        match next {
+            NextEvent::Event(event) => {
                 match write_event(&mut world, &event, &mut text) {
                     Ok(()) => {}
                     Err(_) => return Status::NoMemory,
@@ -104,12 +112,15 @@ fn replay<S: Source, K: Sink>(alloc: Global, source: &mut S, sink: &mut K) -> St
                     Err(_) => return Status::WriteFault,
                 }
             }
-            Ok(NextEvent::End) => return finish(alloc, &world, &mut text, sink),
-            Ok(NextEvent::Bad(reason)) => {
-                return refuse(world.events() + 2, reason, &mut text, sink);
+            NextEvent::End => return finish(alloc, &world, &mut text, sink),
+            NextEvent::Bad(reason) => {
+                return refuse(opening.lines + world.events() + 1, reason, &mut text, sink);
             }
-            Err(_) => return Status::ReadFault,
         }
+        next = match next_event(&mut reader, source, world.events()) {
+            Ok(next) => next,
+            Err(_) => return Status::ReadFault,
+        };
     }
 }
 

@@ -1,8 +1,7 @@
 ghost use Rattle.std.specs.Prelude.{◌≡◌, [], ◌∷◌, ◌++◌, OnOk, flat_map, codes};
 ghost use Rattle.hm_rules.specs.RunText.{why_text, bar_text, outcome_line, mark_line, packet_lines, order_text, place_line, bad_text};
-ghost use Rattle.hm_replay.specs.Reasons.{reason_text};
+ghost use Rattle.hm_schedule.specs.Reasons.{reason_text};
 
-use crate::schedule::LineReason;
 use hm_base::memory::NoMemory;
 use hm_base::operation::OpId;
 use hm_base::text::{write_answer, write_bytes, write_number, write_op, write_stamp};
@@ -11,6 +10,7 @@ use hm_order::mark::Mark;
 use hm_packet::outcome::{Bar, Outcome};
 use hm_packet::packet::Packet;
 use hm_packet::text::write_packet;
+use hm_schedule::line::LineReason;
 
 /// The name of a reason for ignoring a packet.
 fn why_name(why: Why) -> &'static str

@@ -1,8 +1,8 @@
 ghost use Rattle.std.specs.Prelude.{◌≡◌};
 ghost use Rattle.hm_replay.specs.Statuses.{status_of};
 
-use crate::schedule::LineReason;
 use hm_codec::malformed::Reason;
+use hm_schedule::line::LineReason;
 use hm_show::show::Shown;
 
 /// How a run ended. Lines and frames are numbered from 1.

@@ -1,4 +1,5 @@
 use crate::replay::run;
+use crate::rows::ROWS;
 use crate::status::Status;
 use hm_frame::adapters::{ReaderSource, WriterSink};
 use hm_frame::memory::{MemorySink, MemorySource};
@@ -94,6 +95,35 @@ fn replays_a_write_and_a_read(rt: HostRuntime) -> Result<(), Fail> {
     )?;
     assert_eq!(rt; status.code(), 0);
     assert_eq!(rt; sink.as_slice(), WRITE_THEN_READ_TEXT);
+    Ok(())
+}
+
+#[test]
+fn replays_each_row(rt: HostRuntime) -> Result<(), Fail> {
+    for row in &ROWS {
+        let mut sink = sink(rt.alloc(), &[])?;
+        let status = replayed(
+            rt.alloc(),
+            &mut source(rt.alloc(), row.schedule, &[])?,
+            &mut sink,
+        )?;
+        assert_eq!(rt; status, Status::Done);
+        assert_eq!(rt; sink.as_slice(), row.text);
+    }
+    Ok(())
+}
+
+#[test]
+fn takes_setup_lines_in_their_order(rt: HostRuntime) -> Result<(), Fail> {
+    let mut sink = sink(rt.alloc(), &[])?;
+    let schedule = b"group chain 2\nlife 9\nlog 3\ntable 1 1\nread 8 5 1\n";
+    let status = replayed(
+        rt.alloc(),
+        &mut source(rt.alloc(), schedule, &[])?,
+        &mut sink,
+    )?;
+    assert_eq!(rt; status.code(), 3);
+    assert_eq!(rt; sink.as_slice(), b"bad 4 Word\n".as_slice());
     Ok(())
 }
 

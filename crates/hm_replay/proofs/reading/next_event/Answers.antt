@@ -1,4 +1,5 @@
-use Rattle.std.proofs.Common.{Some, ◌++◌}
+use Rattle.std.proofs.Common.{◌++◌}
+use Rattle.hm_schedule.specs.Orders.{Stage}
 use Rattle.hm_replay.proofs.NotNext.{outside_bad}
 use Rattle.hm_replay.proofs.reading.next_event.Goals as goal
 
@@ -9,5 +10,5 @@ returns-in-Ok-Bad-clause-next g c =
       reason_is = came.0;
       cut = came.1.0;
       moves = came.1.1;
-      outside = λ bytes is. outside_bad (Some c.args.events) (c.args.reader.now.ahead ++ bytes) c.in-Ok-Bad.reason _ c.in-Ok-Bad.field-0-is (λ l more lawful same. c.in-Ok-Bad.ensures.only l bytes more lawful is same) (λ none. c.in-Ok-Bad.ensures.end bytes is none);
+      outside = λ bytes is. outside_bad (Stage.Running c.args.events) (c.args.reader.now.ahead ++ bytes) c.in-Ok-Bad.reason _ c.in-Ok-Bad.field-0-is (λ l more next same. c.in-Ok-Bad.ensures.only l bytes more next is same) (λ begun none. c.in-Ok-Bad.ensures.end bytes begun is none);
     }

@@ -1,0 +1,5 @@
+use Rattle.hm_replay.proofs.Complete.{ends_complete}
+use Rattle.hm_replay.proofs.replay.run.Goals as goal
+
+pub returns-then-is_word-clause-complete : goal.returns-then-is_word-clause-complete
+returns-then-is_word-clause-complete g c lines schedule is words read put = ends_complete _ lines _ _ _ _ _ schedule is read put c.replay.ensures

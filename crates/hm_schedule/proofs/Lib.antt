@@ -1,0 +1,3 @@
+pub mod FieldTexts
+pub mod Names
+pub mod LineLemmas

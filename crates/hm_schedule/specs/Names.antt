@@ -1,0 +1,41 @@
+-- The first words of lines.
+use Rattle.std.specs.Prelude.{ℕ, if◌then◌else◌, List, bytes_eq, codes, Option, Some, None}
+use Rattle.hm_schedule.specs.declared.keyword.Keyword.{Keyword}
+use Rattle.hm_schedule.specs.declared.keyword.Keyword.TheVariants as keyword
+
+abbrev pub keyword_text : Keyword → List ℕ
+keyword_text keyword.Group = codes "group"
+keyword_text keyword.Table = codes "table"
+keyword_text keyword.Life = codes "life"
+keyword_text keyword.Log = codes "log"
+keyword_text keyword.Write = codes "write"
+keyword_text keyword.Read = codes "read"
+keyword_text keyword.Resend = codes "resend"
+keyword_text keyword.Deliver = codes "deliver"
+keyword_text keyword.Next = codes "next"
+keyword_text keyword.Drop = codes "drop"
+keyword_text keyword.Tick = codes "tick"
+keyword_text keyword.Stop = codes "stop"
+keyword_text keyword.Remove = codes "remove"
+
+abbrev pub rarely_named : List ℕ → Option Keyword
+rarely_named word =
+    if bytes_eq word (codes "tick") then Some keyword.Tick
+    else if bytes_eq word (codes "stop") then Some keyword.Stop
+    else if bytes_eq word (codes "remove") then Some keyword.Remove
+    else if bytes_eq word (codes "group") then Some keyword.Group
+    else if bytes_eq word (codes "table") then Some keyword.Table
+    else if bytes_eq word (codes "life") then Some keyword.Life
+    else if bytes_eq word (codes "log") then Some keyword.Log
+    else None
+
+-- the keyword that is this word
+abbrev pub named : List ℕ → Option Keyword
+named word =
+    if bytes_eq word (codes "write") then Some keyword.Write
+    else if bytes_eq word (codes "read") then Some keyword.Read
+    else if bytes_eq word (codes "resend") then Some keyword.Resend
+    else if bytes_eq word (codes "deliver") then Some keyword.Deliver
+    else if bytes_eq word (codes "next") then Some keyword.Next
+    else if bytes_eq word (codes "drop") then Some keyword.Drop
+    else rarely_named word

@@ -1,0 +1,104 @@
+ghost use Rattle.std.specs.Prelude.{◌≡◌, ◌≢◌, ◌^◌, ◌<◌, ◌≤◌, ℕ, List, ◌∷◌, ◌++◌, IfSome, IfNone, IsSomeAnd, codes, decimal};
+ghost use Rattle.hm_base.specs.Spellings.{value_text};
+ghost use Rattle.hm_schedule.specs.LineWords.{IsWord, IsWordEnd, SplitsWord};
+ghost use Rattle.hm_schedule.specs.Ranges.{IsValue};
+
+use hm_base::spelling::{read_number, read_value};
+use hm_base::value::Value;
+use memchr::memchr;
+
+/// A text's first word, up to a space or the end, and the rest from that space on.
+pub(crate) fn split_word(text: &[u8]) -> (&[u8], &[u8])
+    ensures { SplitsWord text.now result.0.now result.1.now }
+{
+    match memchr(b' ', text) {
+        Some(len) => text.split_at(len),
+        None => text.split_at(text.len()),
+    }
+}
+
+/// The word behind a space, and the rest. None exactly where the text doesn't begin with a space.
+fn next_word(text: &[u8]) -> Option<(&[u8], &[u8])>
+    ensures some { IfSome result (λ found. (text.now ≡ 32 ∷ (found.0.now ++ found.1.now)) × IsWord found.0.now × IsWordEnd found.1.now) }
+    ensures none { IfNone result ((rest : List ℕ) → text.now ≢ 32 ∷ rest) }
+{
+    match text {
+        [b' ', rest @ ..] => Some(split_word(rest)),
+        _ => None,
+    }
+}
+
+/// The number of at most 32 bits that a word spells. None exactly for any other word.
+fn number_of(word: &[u8]) -> Option<u32>
+    ensures some { IfSome result (λ n. word.now ≡ decimal n) }
+    ensures none { IfNone result ((n : ℕ) → n < 2 ^ 32 → word.now ≢ decimal n) }
+{
+    match read_number(word) {
+        Some(number) => u32::try_from(number).ok(),
+        None => None,
+    }
+}
+
+/// The number of at most 32 bits behind a space, and the rest. None exactly for any other text.
+pub(crate) fn next_number(text: &[u8]) -> Option<(u32, &[u8])>
+    ensures some { IfSome result (λ found. text.now ≡ 32 ∷ (decimal found.0 ++ found.1.now)) }
+    ensures only { (n : ℕ) → (rest : List ℕ) → n < 2 ^ 32 → IsWordEnd rest → text.now ≡ 32 ∷ (decimal n ++ rest)
+        → IsSomeAnd result (λ found. (found.0 ≡ n) × (found.1.now ≡ rest)) }
+{
+    match next_word(text) {
+        Some((word, rest)) => match number_of(word) {
+            Some(number) => Some((number, rest)),
+            None => None,
+        },
+        None => None,
+    }
+}
+
+/// The value behind a space, and the rest. None exactly for any other text.
+pub(crate) fn next_value(text: &[u8]) -> Option<(Value, &[u8])>
+    ensures some { IfSome result (λ found. (text.now ≡ 32 ∷ (value_text found.0 ++ found.1.now)) × IsValue found.0) }
+    ensures only { (v : List ℕ) → (rest : List ℕ) → IsValue v → IsWordEnd rest → text.now ≡ 32 ∷ (value_text v ++ rest)
+        → IsSomeAnd result (λ found. (found.0 ≡ v) × (found.1.now ≡ rest)) }
+{
+    match next_word(text) {
+        Some((word, rest)) => match read_value(word) {
+            Some(value) => Some((value, rest)),
+            None => None,
+        },
+        None => None,
+    }
+}
+
+/// The number of at most `most` behind a space, and the rest. None exactly for any other text.
+pub(crate) fn next_small(text: &[u8], most: u8) -> Option<(u8, &[u8])>
+    ensures some { IfSome result (λ found. (text.now ≡ 32 ∷ (decimal found.0 ++ found.1.now)) × (found.0 ≤ most)) }
+    ensures only { (n : ℕ) → (rest : List ℕ) → n ≤ most → IsWordEnd rest → text.now ≡ 32 ∷ (decimal n ++ rest)
+        → IsSomeAnd result (λ found. (found.0 ≡ n) × (found.1.now ≡ rest)) }
+{
+    match next_number(text) {
+        Some((number, rest)) => {
+            if number > u32::from(most) {
+                return None;
+            }
+            Some((number as u8, rest))
+        }
+        None => None,
+    }
+}
+
+/// What stands behind a space and the word `chain`. None exactly for any other text.
+pub(crate) fn next_chain(text: &[u8]) -> Option<&[u8]>
+    ensures some { IfSome result (λ rest. text.now ≡ 32 ∷ (codes "chain" ++ rest.now)) }
+    ensures only { (rest : List ℕ) → IsWordEnd rest → text.now ≡ 32 ∷ (codes "chain" ++ rest) → IsSomeAnd result (λ found. found.now ≡ rest) }
+{
+    match next_word(text) {
+        Some((word, rest)) => {
+            if word == b"chain".as_slice() {
+                Some(rest)
+            } else {
+                None
+            }
+        }
+        None => None,
+    }
+}

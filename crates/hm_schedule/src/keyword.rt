@@ -1,0 +1,64 @@
+ghost use Rattle.std.specs.Prelude.{◌≡◌};
+ghost use Rattle.hm_schedule.specs.Names.{named, rarely_named};
+
+/// The first word of a line.
+#[derive(Clone, Copy, Debug, PartialEq, Eq)]
+pub enum Keyword {
+    Group,
+    Table,
+    Life,
+    Log,
+    Write,
+    Read,
+    Resend,
+    Deliver,
+    Next,
+    Drop,
+    Tick,
+    Stop,
+    Remove,
+}
+
+/// The keyword that a word is. None exactly for any other word.
+pub(crate) fn keyword_of(word: &[u8]) -> Option<Keyword>
+    ensures { result ≡ named word.now }
+{
+    if word == b"write".as_slice() {
+        Some(Keyword::Write)
+    } else if word == b"read".as_slice() {
+        Some(Keyword::Read)
+    } else if word == b"resend".as_slice() {
+        Some(Keyword::Resend)
+    } else if word == b"deliver".as_slice() {
+        Some(Keyword::Deliver)
+    } else if word == b"next".as_slice() {
+        Some(Keyword::Next)
+    } else if word == b"drop".as_slice() {
+        Some(Keyword::Drop)
+    } else {
+        rare_keyword_of(word)
+    }
+}
+
+/// The keyword of a line that seldom comes.
+fn rare_keyword_of(word: &[u8]) -> Option<Keyword>
+    ensures { result ≡ rarely_named word.now }
+{
+    if word == b"tick".as_slice() {
+        Some(Keyword::Tick)
+    } else if word == b"stop".as_slice() {
+        Some(Keyword::Stop)
+    } else if word == b"remove".as_slice() {
+        Some(Keyword::Remove)
+    } else if word == b"group".as_slice() {
+        Some(Keyword::Group)
+    } else if word == b"table".as_slice() {
+        Some(Keyword::Table)
+    } else if word == b"life".as_slice() {
+        Some(Keyword::Life)
+    } else if word == b"log".as_slice() {
+        Some(Keyword::Log)
+    } else {
+        None
+    }
+}
