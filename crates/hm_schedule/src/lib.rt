@@ -5,3 +5,5 @@ mod fields;
 pub mod keyword;
 pub mod line;
 mod reads;
+#[cfg(test)]
+mod tests;

@@ -1,0 +1,66 @@
+use crate::line::{Line, LineReason, read_line};
+use hm_base::node::GroupKind;
+use hm_base::value::Value;
+use hm_world::event::Event;
+use std::test::Fail;
+
+#[test]
+fn reads_setup_lines(rt: HostRuntime) {
+    let group = Line::Group {
+        kind: GroupKind::Chain,
+        size: 7,
+    };
+    let table = Line::Table { stages: 4, bits: 0 };
+    assert_eq!(rt; read_line(b"group chain 7"), Ok(group));
+    assert_eq!(rt; read_line(b"table 4 0"), Ok(table));
+    assert_eq!(rt; read_line(b"life 4194304"), Ok(Line::Life(4_194_304)));
+    assert_eq!(rt; read_line(b"log 1"), Ok(Line::Log(1)));
+}
+
+#[test]
+fn reads_clients_lines(rt: HostRuntime) -> Result<(), Fail> {
+    let write = Event::Write {
+        client: 7,
+        object: 5,
+        value: Value::from_slice(b"a").ok_or("a value")?,
+        switch: 1,
+    };
+    let read = Event::Read {
+        client: 8,
+        object: 5,
+        switch: 2,
+    };
+    let resend = Event::Resend {
+        client: 7,
+        switch: 1,
+    };
+    assert_eq!(rt; read_line(b"write 7 5 61 1"), Ok(Line::Event(write)));
+    assert_eq!(rt; read_line(b"read 8 5 2"), Ok(Line::Event(read)));
+    assert_eq!(rt; read_line(b"resend 7 1"), Ok(Line::Event(resend)));
+    Ok(())
+}
+
+#[test]
+fn reads_lines_of_packets_and_replicas(rt: HostRuntime) {
+    let deliver = Event::Deliver { packet: 9 };
+    let tick = Event::Tick { replica: 6 };
+    let stop = Event::Stop { replica: 0 };
+    let remove = Event::Remove { replica: 2 };
+    assert_eq!(rt; read_line(b"deliver 9"), Ok(Line::Event(deliver)));
+    assert_eq!(rt; read_line(b"next"), Ok(Line::Event(Event::Next)));
+    assert_eq!(rt; read_line(b"drop"), Ok(Line::Event(Event::Drop)));
+    assert_eq!(rt; read_line(b"tick 6"), Ok(Line::Event(tick)));
+    assert_eq!(rt; read_line(b"stop 0"), Ok(Line::Event(stop)));
+    assert_eq!(rt; read_line(b"remove 2"), Ok(Line::Event(remove)));
+}
+
+#[test]
+fn refuses_other_bytes(rt: HostRuntime) {
+    let none = Err(LineReason::Word);
+    assert_eq!(rt; read_line(b"group chain 8"), none);
+    assert_eq!(rt; read_line(b"table 0 3"), none);
+    assert_eq!(rt; read_line(b"read 8 5 0"), none);
+    assert_eq!(rt; read_line(b"deliver 4294967296"), none);
+    assert_eq!(rt; read_line(b"tick 7"), none);
+    assert_eq!(rt; read_line(b"next "), none);
+}
