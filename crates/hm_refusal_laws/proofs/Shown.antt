@@ -20,12 +20,13 @@ use Rattle.hm_packet.specs.Messages.{Message}
 use Rattle.hm_packet.specs.Texts.{packet_text}
 use Rattle.hm_order.specs.declared.mark.Mark.{Mark}
 use Rattle.hm_order.specs.declared.mark.Mark.TheVariants as mark
-use Rattle.hm_rules.specs.Events.{Event}
-use Rattle.hm_rules.specs.World.{World, Happened}
-use Rattle.hm_rules.specs.Runs.{Slotted, full_from, is_full_outcome}
-use Rattle.hm_rules.specs.RunText.{line_of, why_text, bar_text, outcome_word, outcome_reason, mark_word, mark_fields, mark_line, packet_lines, outcome_line, event_text, place_line, end_line, order_text, bad_text, too_long_text, ended_lines, number_of, refusal_in, refused_events}
+use Rattle.hm_rules.specs.Events.{Setup, Event}
+use Rattle.hm_rules.specs.World.{World, Happened, opens}
+use Rattle.hm_rules.specs.Runs.{Slotted, slotted, full_from, full_events, is_full_outcome}
+use Rattle.hm_rules.specs.RunText.{line_of, why_text, bar_text, outcome_word, outcome_reason, mark_word, mark_fields, mark_line, packet_lines, outcome_line, event_text, events_text, place_line, end_line, order_text, bad_text, too_long_text, ended_lines, number_of, refusal_in, refused_events}
 use Rattle.hm_refusal_laws.specs.Slotting.{slot_happens, slot_step, slot_text}
 use Rattle.hm_refusal_laws.proofs.Ends.{has_no_end, IsEndless, AreEndless, endless_decimal, endless_dotted, endless_answer, endless_joined, endless_packet}
+use Rattle.hm_refusal_laws.proofs.FullRuns.{text_refuses}
 
 -- whatever follows the text, it shows just these refusals
 abbrev pub Shows : List ℕ → List ℕ → Type 0
@@ -289,3 +290,9 @@ shows_text k s (e ∷ es) few rest =
 -- a text that shows these refusals, and then another that shows none
 pub shown : (t u ns : List ℕ) → Shows t ns → Shows u [] → refused_events (t ++ u) ≡ ns
 shown t u ns p q = ap refused_events (sym (append-nil (t ++ u))) ∙ shows_more t u ns p q [] ∙ append-nil ns
+
+-- the events of a run that refuses at its full events, and then a text that shows no refusals
+pub events_show : (setup : Setup) (es : List Event) (end : List ℕ) → length es < 2 ^ 32 → Shows end [] → refused_events (events_text 1 (opens setup) es (full_events setup es) ++ end) ≡ full_events setup es
+events_show setup es end few p =
+    ap (λ (t : List ℕ). refused_events (t ++ end)) (text_refuses 1 (slotted (opens setup)) es)
+    ∙ shown (slot_text 1 (slotted (opens setup)) es) end (full_events setup es) (shows_text 1 (slotted (opens setup)) es (omega arith)) p

@@ -3,6 +3,5 @@ pub mod LineLemmas
 pub mod LinePushes
 pub mod NotNext
 pub mod PacketLines
-pub mod RunLaws
 pub mod Progress
 pub mod Complete

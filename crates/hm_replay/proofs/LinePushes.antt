@@ -1,10 +1,9 @@
 -- Lines of a schedule, and one line more.
-use Rattle.std.proofs.Common.{◌≡◌, ℕ, ◌+◌, ◌<◌, ◌≤◌, List, [], ◌∷◌, ◌++◌, length, Option, Some, None, refl, sym, ap, subst, ◌∙◌, append_assoc, arith, lit<, lit≤}
-use Rattle.std.specs.Prelude.{fold, filter_map, flat_map}
+use Rattle.std.proofs.Common.{◌≡◌, ℕ, ◌+◌, ◌<◌, ◌≤◌, List, [], ◌∷◌, ◌++◌, length, None, refl, sym, ap, ◌∙◌, arith, lit<, lit≤}
+use Rattle.std.specs.Prelude.{fold, filter_map}
 use Rattle.std.proofs.lemmas.List.{append-nil, length-append}
 use Rattle.std.proofs.lemmas.List.Elements.{filter_map-append}
 use Rattle.std.proofs.lemmas.Grind.{flat_map-append, fold-append}
-use Rattle.hm_base.specs.declared.node.GroupKind.{GroupKind}
 use Rattle.hm_base.specs.declared.node.GroupKind.TheVariants as kind
 use Rattle.hm_rules.specs.Events as rule
 use Rattle.hm_world.specs.Declares.{max_events}
@@ -165,3 +164,21 @@ stage_counts stage (line.Event e ∷ ls) come =
 -- the stage counts the events
 pub stage_count : (lines : List Line) → IsBegun lines → events_at (stage_of lines) ≡ length (events_in lines)
 stage_count lines begun = let counted : events_at (stage_of lines) ≡ 0 + length (events_in lines) = stage_counts Stage.Fresh lines begun in omega arith
+
+few_after : (stage : Stage) (l : Line) → MayCome stage l → events_at (after stage l) ≤ max_events
+few_after stage (line.Group kind size) may = lit≤ tt
+few_after stage (line.Table stages bits) may = lit≤ tt
+few_after stage (line.Life life) may = lit≤ tt
+few_after stage (line.Log entries) may = lit≤ tt
+few_after stage (line.Event e) may = let few : events_at stage < max_events = few_events stage e may in omega arith
+
+few_behind : (stage : Stage) (lines : List Line) → events_at stage ≤ max_events → ComeFrom stage lines → events_at (fold after stage lines) ≤ max_events
+few_behind stage [] few come = few
+few_behind stage (l ∷ ls) few come = few_behind (after stage l) ls (few_after stage l come.0.1) come.1
+
+-- a world takes all of the events
+pub few_in : (lines : List Line) → IsBegun lines → length (events_in lines) ≤ max_events
+few_in lines begun =
+    let few : events_at (stage_of lines) ≤ max_events = few_behind Stage.Fresh lines (lit≤ tt) begun in
+    let count : events_at (stage_of lines) ≡ length (events_in lines) = stage_count lines begun in
+    omega arith

@@ -1,5 +1,5 @@
 -- How far a replay has come, and how it ends from there.
-use Rattle.std.proofs.Common.{◌≡◌, ◌≢◌, ℕ, ◌+◌, ◌-◌, ◌^◌, ◌<◌, ◌≤◌, min, false, List, [], ◌∷◌, ◌++◌, length, Option, Some, None, refl, sym, ap, subst, ◌∙◌, inl, inr, append_assoc, arith}
+use Rattle.std.proofs.Common.{◌≡◌, ◌≢◌, ℕ, ◌+◌, ◌-◌, ◌^◌, ◌<◌, ◌≤◌, min, List, [], ◌∷◌, ◌++◌, length, Option, Some, None, refl, sym, ap, subst, ◌∙◌, inl, inr, append_assoc, arith}
 use Rattle.std.specs.Prelude.{IfSome}
 use Rattle.std.proofs.lemmas.List.{append-nil, length-append}
 use Rattle.std.specs.Io.KnownBytes.{Consumes, Appends}
@@ -10,25 +10,29 @@ use Rattle.hm_order.proofs.Explained.{order_explains}
 use Rattle.hm_chain_laws.proofs.ChainRuns.{sound_run}
 use Rattle.hm_rules.specs.Events as rule
 use Rattle.hm_rules.specs.World.{World, opens}
-use Rattle.hm_rules.specs.Happens.{happens}
-use Rattle.hm_rules.specs.Runs.{run}
+use Rattle.hm_rules.specs.Runs.{Slotted, slotted}
 use Rattle.hm_rules.specs.RunText as run_texts
+use Rattle.hm_refusal_laws.specs.Slotting.{slot_happens, slot_step, slot_run, slot_text}
+use Rattle.hm_refusal_laws.proofs.Ends.{has_no_end, IsEndless}
+use Rattle.hm_refusal_laws.proofs.FullRuns.{run_refuses, text_refuses, run_push, text_push}
+use Rattle.hm_refusal_laws.proofs.Shown.{Shows, shows_order, shows_bad, events_show}
 use Rattle.hm_world.specs.Declares.{max_events}
 use Rattle.hm_world.specs.Setups.{setup_of, event_of}
-use Rattle.hm_world.specs.WorldFields.{Held}
+use Rattle.hm_world.specs.WorldFields.{Held, with_slots}
 use Rattle.hm_world.specs.declared.event.Event.{Event}
 use Rattle.hm_schedule.specs.LineTexts.{IsLine}
-use Rattle.hm_schedule.specs.Orders.{Stage, IsNext, IsBegun, IsSchedule, IsOutside, after, stage_of, events_at, line_bytes, lines_text, setup_in, events_in}
+use Rattle.hm_schedule.specs.Orders.{Stage, IsBegun, IsSchedule, IsOutside, after, stage_of, events_at, line_bytes, lines_text, setup_in, events_in}
 use Rattle.hm_schedule.specs.Reasons.{reason_text}
 use Rattle.hm_schedule.specs.declared.line.Line.{Line}
 use Rattle.hm_schedule.specs.declared.line.Line.TheVariants as line
 use Rattle.hm_schedule.specs.declared.line.LineReason.{LineReason}
+use Rattle.hm_schedule.specs.declared.line.LineReason.TheVariants.{Word}
 use Rattle.hm_frame.specs.Faults.{Rose}
 use Rattle.hm_frame.proofs.KnownBytes.{appends_then, consumes_then, appends_none}
 use Rattle.hm_replay.specs.Lines.{Moves}
 use Rattle.hm_replay.specs.Openings.{Says, max_opening, opening_bound}
-use Rattle.hm_replay.specs.Nexts.{ComesEnd, ComesBadly, EventComes, Opens, OpensCut}
-use Rattle.hm_replay.specs.Replays.{world_in, events_text_of, history_in, end_text, BreaksOff, IsCutRun, IsPartialRun, IsClosing}
+use Rattle.hm_replay.specs.Nexts.{ComesBadly, EventComes, Opens, OpensCut}
+use Rattle.hm_replay.specs.Replays.{full_in, world_in, events_text_of, history_in, end_text, ShowsFull, BreaksOff, IsCutRun, IsPartialRun, IsClosing}
 use Rattle.hm_replay.specs.Closings.{Closes}
 use Rattle.hm_replay.specs.Statuses.{Faults, Ends}
 use Rattle.hm_replay.specs.declared.opening.Opening.{Opening}
@@ -36,8 +40,8 @@ use Rattle.hm_replay.specs.declared.reading.NextEvent.{NextEvent}
 use Rattle.hm_replay.specs.declared.reading.NextEvent.TheVariants as next_event
 use Rattle.hm_replay.specs.declared.status.Status.{Status}
 use Rattle.hm_replay.specs.declared.status.Status.TheVariants as status
-use Rattle.hm_replay.proofs.LinePushes.{stage_push, setup_push, text_push, event_push, begun_push, few_events, stage_count, setup_is_chain}
-use Rattle.hm_replay.proofs.RunLaws.{run_push, events_text_push}
+use Rattle.hm_replay.proofs.LinePushes.{stage_push, setup_push, event_push, begun_push, few_events, stage_count, few_in, setup_is_chain}
+use Rattle.hm_replay.proofs.LinePushes as line_pushes
 
 -- ---- bytes that were taken
 
@@ -51,7 +55,7 @@ read_on left now later text old new cut before moves =
 pub read_line_more : (lines : List Line) (l : Line) (old new : List ℕ) (left now later : Option (List ℕ)) → Consumes left now (lines_text lines ++ old) → Moves old new now later (line_bytes l)
     → Consumes left later (lines_text (lines ++ l ∷ []) ++ new)
 read_line_more lines l old new left now later read moves =
-    subst (λ (t : List ℕ). Consumes left later t) (sym (append_assoc (lines_text lines) (line_bytes l) new) ∙ ap (λ (t : List ℕ). t ++ new) (sym (text_push lines l)))
+    subst (λ (t : List ℕ). Consumes left later t) (sym (append_assoc (lines_text lines) (line_bytes l) new) ∙ ap (λ (t : List ℕ). t ++ new) (sym (line_pushes.text_push lines l)))
     (read_on left now later (lines_text lines) old new (line_bytes l) read moves)
 
 -- what moved, whatever came
@@ -60,13 +64,34 @@ event_moves stage (next_event.Event e) old new left now comes = (line_bytes (lin
 event_moves stage next_event.End old new left now comes = ([], comes.moves)
 event_moves stage (next_event.Bad reason) old new left now comes = (comes.cut, comes.moves)
 
+-- ---- the run of lines
+
+-- the world behind their events, with its slots
+abbrev pub slotted_in : List Line → Slotted
+slotted_in lines = slot_run (slotted (opens (setup_in lines))) (events_in lines)
+
+world_of : (lines : List Line) → world_in lines ≡ (slotted_in lines).world
+world_of lines = run_refuses 1 (slotted (opens (setup_in lines))) (events_in lines)
+
+text_of : (lines : List Line) → events_text_of lines ≡ slot_text 1 (slotted (opens (setup_in lines))) (events_in lines)
+text_of lines = text_refuses 1 (slotted (opens (setup_in lines))) (events_in lines)
+
+-- their text shows their refusals, whatever ends it
+shows_full : (lines : List Line) (end : List ℕ) → IsBegun lines → Shows end [] → ShowsFull lines (events_text_of lines ++ end)
+shows_full lines end begun none =
+    let few : length (events_in lines) ≤ max_events = few_in lines begun in
+    events_show (setup_in lines) (events_in lines) end (omega arith) none
+
+shows_cut : (lines : List Line) → IsBegun lines → ShowsFull lines (events_text_of lines)
+shows_cut lines begun = ap run_texts.refused_events (sym (append-nil (events_text_of lines))) ∙ shows_full lines [] begun (λ rest. refl)
+
 -- ---- the schedule so far
 
 pub record Progress (w : Held) (opened : ℕ) (lines : List Line) (ahead : List ℕ) (left now held put : Option (List ℕ)) : Type 0 where
   pub begun : IsBegun lines
   pub read : Consumes left now (lines_text lines ++ ahead)
   pub written : Appends held put (events_text_of lines)
-  pub world_is : w.world ≡ world_in lines
+  pub state_is : with_slots w ≡ slotted_in lines
   pub events_are : w.events ≡ length (events_in lines)
   pub few : w.events ≤ max_events
   pub opening : opened ≤ max_opening
@@ -88,15 +113,15 @@ pub record Ahead (w : Held) (opened : ℕ) (next : NextEvent) (new : List ℕ) (
 
 -- nothing happens in the opening lines
 pub no_text : (lines : List Line) → events_in lines ≡ [] → events_text_of lines ≡ []
-no_text lines none = ap (λ (es : List rule.Event). run_texts.events_text 1 (opens (setup_in lines)) es []) none
+no_text lines none = text_of lines ∙ ap (λ (es : List rule.Event). slot_text 1 (slotted (opens (setup_in lines))) es) none
 
-no_world : (lines : List Line) → events_in lines ≡ [] → world_in lines ≡ opens (setup_in lines)
-no_world lines none = ap (λ (es : List rule.Event). run (opens (setup_in lines)) es []) none
+no_step : (lines : List Line) → events_in lines ≡ [] → slotted_in lines ≡ slotted (opens (setup_in lines))
+no_step lines none = ap (λ (es : List rule.Event). slot_run (slotted (opens (setup_in lines))) es) none
 
 -- behind the opening lines
 pub ahead_start : (o : Opening) (next : NextEvent) (w : Held) (new : List ℕ) (left now held : Option (List ℕ)) → Opens o next new left now
-    → w.world ≡ opens (setup_of o.setup) → w.events ≡ 0 → Ahead w o.lines next new left now held held
-ahead_start o next w new left now held opened world none =
+    → with_slots w ≡ slotted (opens (setup_of o.setup)) → w.events ≡ 0 → Ahead w o.lines next new left now held held
+ahead_start o next w new left now held opened state none =
     let says = opened.says in
     let count : o.lines ≡ length opened.lines = says.count in
     let few : length opened.lines ≤ opening_bound (stage_of opened.lines) = says.few in
@@ -110,7 +135,7 @@ ahead_start o next w new left now held opened world none =
         begun = says.begun;
         read = opened.read;
         written = subst (λ (t : List ℕ). Appends held held t) (sym (no_text opened.lines says.no_event)) (appends_none held);
-        world_is = world ∙ ap opens says.setup_is ∙ sym (no_world opened.lines says.no_event);
+        state_is = state ∙ ap (λ (s : rule.Setup). slotted (opens s)) says.setup_is ∙ sym (no_step opened.lines says.no_event);
         events_are = none ∙ sym size;
         few = omega arith;
         opening = omega arith;
@@ -121,31 +146,33 @@ ahead_start o next w new left now held opened world none =
 
 -- ---- one event more
 
-grown_world : (lines : List Line) (e : Event) (w v : World) → w ≡ world_in lines → v ≡ (happens w (event_of e) false).world → v ≡ world_in (lines ++ line.Event e ∷ [])
-grown_world lines e w v is happened =
+grown_state : (lines : List Line) (e : Event) (s t : Slotted) → s ≡ slotted_in lines → t ≡ slot_step s (event_of e) → t ≡ slotted_in (lines ++ line.Event e ∷ [])
+grown_state lines e s t is happened =
     happened
-    ∙ ap (λ (x : World). (happens x (event_of e) false).world) is
-    ∙ sym (run_push 1 (opens (setup_in lines)) (events_in lines) (event_of e))
-    ∙ ap (λ (es : List rule.Event). run (opens (setup_in lines)) es []) (sym (event_push lines e))
-    ∙ ap (λ (s : rule.Setup). run (opens s) (events_in (lines ++ line.Event e ∷ [])) []) (sym (setup_push lines (line.Event e)))
+    ∙ ap (λ (x : Slotted). slot_step x (event_of e)) is
+    ∙ sym (run_push (slotted (opens (setup_in lines))) (events_in lines) (event_of e))
+    ∙ ap (λ (es : List rule.Event). slot_run (slotted (opens (setup_in lines))) es) (sym (event_push lines e))
+    ∙ ap (λ (s : rule.Setup). slot_run (slotted (opens s)) (events_in (lines ++ line.Event e ∷ []))) (sym (setup_push lines (line.Event e)))
 
-grown_text : (lines : List Line) (e : Event) (w : World) (events : ℕ) (text : List ℕ) → w ≡ world_in lines → events ≡ length (events_in lines)
-    → text ≡ run_texts.event_text (events + 1) w (happens w (event_of e) false)
+grown_text : (lines : List Line) (e : Event) (s : Slotted) (events : ℕ) (text : List ℕ) → s ≡ slotted_in lines → events ≡ length (events_in lines)
+    → text ≡ run_texts.event_text (events + 1) s.world (slot_happens s (event_of e))
     → events_text_of lines ++ text ≡ events_text_of (lines ++ line.Event e ∷ [])
-grown_text lines e w events text is count same =
-    let begin = opens (setup_in lines) in
-    let last : ℕ → World → List ℕ = λ n x. run_texts.event_text n x (happens x (event_of e) false) in
+grown_text lines e s events text is count same =
+    let begin : Slotted = slotted (opens (setup_in lines)) in
+    let last : ℕ → Slotted → List ℕ = λ n x. run_texts.event_text n x.world (slot_happens x (event_of e)) in
     let number : events + 1 ≡ length (events_in lines) + 1 = omega arith in
-    ap (λ (l : List ℕ). events_text_of lines ++ l) (same ∙ ap (λ (n : ℕ). last n w) number ∙ ap (last (length (events_in lines) + 1)) is)
-    ∙ sym (events_text_push 1 begin (events_in lines) (event_of e))
-    ∙ ap (λ (es : List rule.Event). run_texts.events_text 1 begin es []) (sym (event_push lines e))
-    ∙ ap (λ (s : rule.Setup). run_texts.events_text 1 (opens s) (events_in (lines ++ line.Event e ∷ [])) []) (sym (setup_push lines (line.Event e)))
+    ap (λ (l : List ℕ). events_text_of lines ++ l) (same ∙ ap (λ (n : ℕ). last n s) number ∙ ap (last (length (events_in lines) + 1)) is)
+    ∙ ap (λ (l : List ℕ). l ++ last (length (events_in lines) + 1) (slotted_in lines)) (text_of lines)
+    ∙ sym (text_push 1 begin (events_in lines) (event_of e))
+    ∙ ap (λ (es : List rule.Event). slot_text 1 begin es) (sym (event_push lines e))
+    ∙ ap (λ (s : rule.Setup). slot_text 1 (slotted (opens s)) (events_in (lines ++ line.Event e ∷ []))) (sym (setup_push lines (line.Event e)))
+    ∙ sym (text_of (lines ++ line.Event e ∷ []))
 
 -- behind one event more
 pub progress_more : (w v : Held) (opened : ℕ) (lines : List Line) (old new : List ℕ) (left now later held put after : Option (List ℕ)) (e : Event) (text : List ℕ)
     → Progress w opened lines old left now held put → EventComes (stage_of lines) (next_event.Event e) old new now later
-    → v.world ≡ (happens w.world (event_of e) false).world → v.events ≡ w.events + 1
-    → text ≡ run_texts.event_text (w.events + 1) w.world (happens w.world (event_of e) false) → Appends put after text
+    → with_slots v ≡ slot_step (with_slots w) (event_of e) → v.events ≡ w.events + 1
+    → text ≡ run_texts.event_text (w.events + 1) w.world (slot_happens (with_slots w) (event_of e)) → Appends put after text
     → Progress v opened (lines ++ line.Event e ∷ []) new left later held after
 progress_more w v opened lines old new left now later held put after e text p came happened more is written =
     let count : w.events ≡ length (events_in lines) = p.events_are in
@@ -157,8 +184,8 @@ progress_more w v opened lines old new left now later held put after e text p ca
     record {
       begun = begun_push lines (line.Event e) p.begun came.0;
       read = read_line_more lines (line.Event e) old new left now later p.read came.1;
-      written = subst (λ (l : List ℕ). Appends held after l) (grown_text lines e w.world w.events text p.world_is p.events_are is) (appends_then held put after (events_text_of lines) text p.written written);
-      world_is = grown_world lines e w.world v.world p.world_is happened;
+      written = subst (λ (l : List ℕ). Appends held after l) (grown_text lines e (with_slots w) w.events text p.state_is p.events_are is) (appends_then held put after (events_text_of lines) text p.written written);
+      state_is = grown_state lines e (with_slots w) (with_slots v) p.state_is happened;
       events_are = omega arith;
       few = omega arith;
       opening = p.opening;
@@ -231,6 +258,9 @@ ends_closed whole result begun ahead closing left now held mid put f middle lawf
 ends_closed whole result begun ahead closing left now held mid put f middle lawful read closes written later ends (inr (inr none)) =
     subst (λ (s : Status). Ends s left now held put f) (sym none.status) (partial begun ahead closing [] left now held mid put lawful read closes (record { rest = closing; parts = refl }) written none.written)
 
+word_endless : (reason : LineReason) → reason ≡ Word → IsEndless (reason_text reason)
+word_endless reason is = ap (λ (r : LineReason). has_no_end (reason_text r)) is
+
 -- where a line outside the grammar comes
 pub ends_badly : (result : Status) (begun : List Line) (old new : List ℕ) (left now later held mid put : Option (List ℕ)) (f : Faults) (middle number : ℕ) (reason : LineReason)
     → IsBegun begun → Consumes left now (lines_text begun ++ old) → Appends held mid (events_text_of begun) → f.put_before ≤ middle
@@ -243,12 +273,21 @@ ends_badly result begun old new left now later held mid put f middle number reas
     ends_closed (status.BadLine number reason) result begun (came.cut ++ new) (run_texts.bad_text number (reason_text reason)) left later held mid put f middle lawful
     (read_on left now later (lines_text begun) old new came.cut read came.moves)
     (inr (inr (record { breaks = breaks; closing_is = closing_is }))) written sooner
-    (λ whole. record { begun = begun; lawful = lawful; number_is = number_is; reason_is = came.reason_is; breaks = breaks; written = whole }) closed
+    (λ whole.
+    record {
+      begun = begun;
+      lawful = lawful;
+      number_is = number_is;
+      reason_is = came.reason_is;
+      breaks = breaks;
+      written = whole;
+      shown = shows_full begun (run_texts.bad_text number (reason_text reason)) lawful (shows_bad number (reason_text reason) (word_endless reason came.reason_is));
+    }) closed
 
 -- the order of a schedule's run is one that a single object store could have given
 run_is_legal : (lines : List Line) → IsBegun lines → IsLegal (history_in lines) (order (history_in lines))
 run_is_legal lines begun =
-    let sound = sound_run (setup_in lines) (events_in lines) [] (setup_is_chain lines begun) in
+    let sound = sound_run (setup_in lines) (events_in lines) (full_in lines) (setup_is_chain lines begun) in
     order_explains (history_in lines) sound.core.agree.formed sound.core.agree.due
 
 some_line : (lines : List Line) → stage_of lines ≢ Stage.Fresh → lines ≢ []
@@ -266,10 +305,19 @@ ends_whole result w opened new left later held mid put f middle a sooner closed 
     let schedule : IsSchedule lines = record { begun = p.begun; group = some_line lines came.begun } in
     let read = read_on left a.between later (lines_text lines) a.old new [] p.read came.moves in
     let whole : Consumes left later (lines_text lines) = subst (λ (l : List ℕ). Consumes left later l) (ap (λ (l : List ℕ). lines_text lines ++ l) came.finished.none ∙ append-nil (lines_text lines)) read in
-    let same : run_texts.order_text (order w.world.history) ≡ end_text lines = ap (λ (x : World). run_texts.order_text (order x.history)) p.world_is in
+    let same : run_texts.order_text (order w.world.history) ≡ end_text lines = ap (λ (x : World). run_texts.order_text (order x.history)) (ap (λ (x : Slotted). x.world) p.state_is ∙ sym (world_of lines)) in
     ends_closed status.Done result lines new (run_texts.order_text (order w.world.history)) left later held mid put f middle p.begun read
     (inr (inl (record { schedule = schedule; none = came.finished.none; end = came.finished.end; closing_is = same }))) p.written sooner
-    (λ written. record { schedule = lines; lawful = schedule; read = whole; end = came.finished.end; written = subst (λ (l : List ℕ). Appends held put (events_text_of lines ++ l)) same written; legal = run_is_legal lines p.begun }) closed
+    (λ written.
+    record {
+      schedule = lines;
+      lawful = schedule;
+      read = whole;
+      end = came.finished.end;
+      written = subst (λ (l : List ℕ). Appends held put (events_text_of lines ++ l)) same written;
+      shown = shows_full lines (end_text lines) p.begun (shows_order (order (history_in lines)));
+      legal = run_is_legal lines p.begun;
+    }) closed
 
 -- where a line outside the grammar comes next
 pub ends_badly_ahead : (result : Status) (w : Held) (opened : ℕ) (new : List ℕ) (left later held mid put : Option (List ℕ)) (f : Faults) (middle number : ℕ) (reason : LineReason)
@@ -291,6 +339,7 @@ ends_cut begun old new left now later held put lawful read written moves part = 
   part_is = part;
   read = read_on left now later (lines_text begun) old new [] read moves;
   written = written;
+  shown = shows_cut begun lawful;
 }
 
 -- where memory is wanting
@@ -301,8 +350,8 @@ ends_empty begun ahead left now held put lawful read written =
 -- where a read fails behind an event that was put
 pub ends_cut_ahead : (w v : Held) (opened : ℕ) (old new : List ℕ) (left now later held put after : Option (List ℕ)) (e : Event) (text : List ℕ)
     → Ahead w opened (next_event.Event e) old left now held put
-    → v.world ≡ (happens w.world (event_of e) false).world → v.events ≡ w.events + 1
-    → text ≡ run_texts.event_text (w.events + 1) w.world (happens w.world (event_of e) false) → Appends put after text
+    → with_slots v ≡ slot_step (with_slots w) (event_of e) → v.events ≡ w.events + 1
+    → text ≡ run_texts.event_text (w.events + 1) w.world (slot_happens (with_slots w) (event_of e)) → Appends put after text
     → Moves old new now later [] → IsLine new → IsCutRun left later held after
 ends_cut_ahead w v opened old new left now later held put after e text a happened more is written moves part =
     let p = progress_more w v opened a.lines a.old old left a.between now held put after e text a.progress a.comes happened more is written in
@@ -317,6 +366,7 @@ ends_cut_opening part left now held cut = record {
   part_is = cut.part_is;
   read = cut.read;
   written = subst (λ (t : List ℕ). Appends held held t) (sym (no_text cut.lines cut.no_event)) (appends_none held);
+  shown = shows_cut cut.lines cut.begun;
 }
 
 -- where memory is wanting behind what comes next
@@ -336,7 +386,7 @@ ends_opening o next new left later held opened =
 -- where a put of an event's text fails
 pub ends_event : (w : Held) (opened : ℕ) (new front text : List ℕ) (left later held mid put : Option (List ℕ)) (e : Event)
     → Ahead w opened (next_event.Event e) new left later held mid
-    → text ≡ run_texts.event_text (w.events + 1) w.world (happens w.world (event_of e) false) → IsPrefix front text → Appends mid put front
+    → text ≡ run_texts.event_text (w.events + 1) w.world (slot_happens (with_slots w) (event_of e)) → IsPrefix front text → Appends mid put front
     → IsPartialRun left later held put
 ends_event w opened new front text left later held mid put e a is is_front written =
     let p = a.progress in
@@ -355,7 +405,7 @@ ends_event w opened new front text left later held mid put e a is is_front writt
         parts =
             append_assoc so_far front is_front.rest
             ∙ ap (λ (l : List ℕ). so_far ++ l) is_front.parts
-            ∙ grown_text a.lines e w.world w.events text p.world_is p.events_are is
+            ∙ grown_text a.lines e (with_slots w) w.events text p.state_is p.events_are is
             ∙ sym (append-nil (events_text_of more));
       };
       written = appends_then held mid put so_far front p.written written;

@@ -3,8 +3,8 @@ use Rattle.std.specs.Prelude.{◌≡◌, ℕ, ◌+◌, List, [], ◌++◌, lengt
 use Rattle.std.specs.Io.KnownBytes.{Consumes, Appends, IsAtEnd}
 use Rattle.hm_base.specs.Lists.{IsPrefix}
 use Rattle.hm_rules.specs.World.{World, opens}
-use Rattle.hm_rules.specs.Runs.{run}
-use Rattle.hm_rules.specs.RunText.{events_text, order_text, bad_text, run_text}
+use Rattle.hm_rules.specs.Runs.{run, full_events}
+use Rattle.hm_rules.specs.RunText.{events_text, order_text, bad_text, run_text, refused_events}
 use Rattle.hm_order.specs.declared.mark.Mark.{Mark}
 use Rattle.hm_order.specs.Legal.{IsLegal}
 use Rattle.hm_order.specs.Order.{order}
@@ -17,13 +17,17 @@ use Rattle.hm_schedule.specs.declared.line.LineReason.TheVariants.{Word}
 
 -- ---- what the lines of a schedule, or of its front, lead to
 
+-- the numbers of the events at which a write finds the slots of its switch full
+abbrev pub full_in : List Line → List ℕ
+full_in lines = full_events (setup_in lines) (events_in lines)
+
 -- the world behind their events
 abbrev pub world_in : List Line → World
-world_in lines = run (opens (setup_in lines)) (events_in lines) []
+world_in lines = run (opens (setup_in lines)) (events_in lines) (full_in lines)
 
 -- the text of their events
 abbrev pub events_text_of : List Line → List ℕ
-events_text_of lines = events_text 1 (opens (setup_in lines)) (events_in lines) []
+events_text_of lines = events_text 1 (opens (setup_in lines)) (events_in lines) (full_in lines)
 
 -- the history of their run
 abbrev pub history_in : List Line → List Mark
@@ -33,6 +37,10 @@ history_in lines = (world_in lines).history
 abbrev pub end_text : List Line → List ℕ
 end_text lines = order_text (order (history_in lines))
 
+-- the text shows a refused write at just those events at which the slots are full
+abbrev pub ShowsFull : List Line → List ℕ → Type 0
+ShowsFull lines text = refused_events text ≡ full_in lines
+
 -- a source's bytes are these lines, and then bytes that are outside the grammar
 pub record BreaksOff (begun : List Line) (bytes : List ℕ) : Type 0 where
   pub rest : List ℕ
@@ -41,14 +49,15 @@ pub record BreaksOff (begun : List Line) (bytes : List ℕ) : Type 0 where
 
 -- ---- how a replay ends
 
--- the source's bytes to its end were a schedule, the text of its run was put, and the order at its end is one that a single
--- object store could have given
+-- the source's bytes to its end were a schedule, the text of its run was put, which shows a refused write just where the slots
+-- are full, and the order at its end is one that a single object store could have given
 pub record IsWholeRun (left now held put : Option (List ℕ)) : Type 0 where
   pub schedule : List Line
   pub lawful : IsSchedule schedule
   pub read : Consumes left now (lines_text schedule)
   pub end : IsAtEnd now
-  pub written : Appends held put (run_text (setup_in schedule) (events_in schedule) [])
+  pub written : Appends held put (run_text (setup_in schedule) (events_in schedule) (full_in schedule))
+  pub shown : ShowsFull schedule (run_text (setup_in schedule) (events_in schedule) (full_in schedule))
   pub legal : IsLegal (history_in schedule) (order (history_in schedule))
 
 -- the line of this number is the first outside the grammar; the text of the events before it was put, and then its number
@@ -59,6 +68,7 @@ pub record IsBadRun (left held put : Option (List ℕ)) (number : ℕ) (reason :
   pub reason_is : reason ≡ Word
   pub breaks : IfSome left (BreaksOff begun)
   pub written : Appends held put (events_text_of begun ++ bad_text number (reason_text reason))
+  pub shown : ShowsFull begun (events_text_of begun ++ bad_text number (reason_text reason))
 
 -- the text of the events whose lines were read whole was put
 pub record IsCutRun (left now held put : Option (List ℕ)) : Type 0 where
@@ -68,6 +78,7 @@ pub record IsCutRun (left now held put : Option (List ℕ)) : Type 0 where
   pub part_is : IsLine part
   pub read : Consumes left now (lines_text begun ++ part)
   pub written : Appends held put (events_text_of begun)
+  pub shown : ShowsFull begun (events_text_of begun)
 
 -- the source's bytes to its end are these lines, a schedule, and the closing text is that of its end
 pub record ClosesWhole (begun : List Line) (ahead : List ℕ) (now : Option (List ℕ)) (closing : List ℕ) : Type 0 where

@@ -1,8 +1,9 @@
-ghost use Rattle.std.specs.Prelude.{◌≡◌, ◌<◌, ◌+◌, ◌++◌, false, drop, flat_map, OnOk};
-ghost use Rattle.hm_rules.specs.Happens.{happens};
+ghost use Rattle.std.specs.Prelude.{◌≡◌, ◌<◌, ◌+◌, ◌++◌, drop, flat_map, OnOk};
 ghost use Rattle.hm_rules.specs.RunText.{event_text, mark_line, packet_lines};
+ghost use Rattle.hm_refusal_laws.specs.Slotting.{slot_happens, slot_step};
 ghost use Rattle.hm_world.specs.Declares.{max_events};
 ghost use Rattle.hm_world.specs.Setups.{event_of};
+ghost use Rattle.hm_world.specs.WorldFields.{with_slots};
 
 use crate::run_text::{write_marks, write_outcome, write_sent};
 use hm_base::memory::NoMemory;
@@ -17,8 +18,8 @@ pub(crate) fn write_event(
     text: &mut Vec<u8>,
 ) -> Result<(), NoMemory>
     requires { world.old.events < max_events }
-    ensures text { OnOk result (text.new.items ≡ event_text (world.old.events + 1) world.old.world (happens world.old.world (event_of event.now) false)) }
-    ensures world { OnOk result (world.new.world ≡ (happens world.old.world (event_of event.now) false).world) }
+    ensures text { OnOk result (text.new.items ≡ event_text (world.old.events + 1) world.old.world (slot_happens (with_slots world.old) (event_of event.now))) }
+    ensures world { OnOk result (with_slots world.new ≡ slot_step (with_slots world.old) (event_of event.now)) }
     ensures events { OnOk result (world.new.events ≡ world.old.events + 1) }
 {
     let marked = world.history().marks().len();

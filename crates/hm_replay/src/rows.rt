@@ -165,6 +165,107 @@ end
 ",
 };
 
+/// A switch that handles one packet.
+const SWITCH_LIFE_OF_ONE: Row = Row {
+    schedule: b"group chain 1
+life 1
+read 7 1 1
+read 8 1 1
+next
+next
+",
+    text: b"event 1 ok
+invoke 7.1
+packet 1 c7 s1 read 1 1
+event 2 ok
+invoke 8.1
+packet 2 c8 s1 read 1 1
+event 3 ok
+packet 3 s1 r0 normalread 7 1 1
+event 4 spent
+order 0
+end
+",
+};
+
+/// A write that finds the dirty table full, and is taken when it's sent again.
+const CHAIN_TABLE_FULL: Row = Row {
+    schedule: b"group chain 1
+table 1 0
+write 7 5 61 1
+write 8 6 62 1
+deliver 1
+deliver 2
+deliver 3
+deliver 4
+resend 8 1
+deliver 6
+",
+    text: b"event 1 ok
+invoke 7.1
+packet 1 c7 s1 write 1 5 61
+event 2 ok
+invoke 8.1
+packet 2 c8 s1 write 1 6 62
+event 3 ok
+packet 3 s1 r0 put 1.1 7 1 5 61
+event 4 full
+event 5 ok
+commit 7.1 1.1
+packet 4 r0 s1 done 1.1 7 1
+event 6 ok
+packet 5 s1 c7 reply 1 1.1 wrote
+event 7 ok
+packet 6 c8 s1 write 1 6 62
+event 8 ok
+packet 7 s1 r0 put 1.2 8 1 6 62
+order 1
+place 7.1
+end
+",
+};
+
+/// A slot that a completed write leaves to another object.
+const CHAIN_TABLE_FREED: Row = Row {
+    schedule: b"group chain 1
+table 1 0
+write 7 5 61 1
+write 8 6 62 1
+next
+next
+next
+next
+write 9 6 62 1
+next
+next
+",
+    text: b"event 1 ok
+invoke 7.1
+packet 1 c7 s1 write 1 5 61
+event 2 ok
+invoke 8.1
+packet 2 c8 s1 write 1 6 62
+event 3 ok
+packet 3 s1 r0 put 1.1 7 1 5 61
+event 4 full
+event 5 ok
+commit 7.1 1.1
+packet 4 r0 s1 done 1.1 7 1
+event 6 ok
+packet 5 s1 c7 reply 1 1.1 wrote
+event 7 ok
+invoke 9.1
+packet 6 c9 s1 write 1 6 62
+event 8 ok
+reply 7.1 1.1 wrote
+event 9 ok
+packet 7 s1 r0 put 1.2 9 1 6 62
+order 1
+place 7.1
+end
+",
+};
+
 /// A write that finds the log full.
 const CHAIN_LOG_FULL: Row = Row {
     schedule: b"group chain 1
@@ -338,11 +439,14 @@ end
 };
 
 /// All of them.
-pub const ROWS: [Row; 8] = [
+pub const ROWS: [Row; 11] = [
     CHAIN_PUT_REPEATED,
     CHAIN_WRITE_UNDER_TWO_NUMBERS,
     CHAIN_OBJECT_STILL_DIRTY,
     SWITCH_LIFE,
+    SWITCH_LIFE_OF_ONE,
+    CHAIN_TABLE_FULL,
+    CHAIN_TABLE_FREED,
     CHAIN_LOG_FULL,
     CHAIN_STAMPED_READ_BEHIND_A_WRITE,
     CHAIN_REMOVE_TAIL,

@@ -1,30 +1,22 @@
-use Rattle.std.proofs.Common.{◌≡◌, ℕ, ◌<◌, ◌^◌, List, [], ◌++◌, length, refl, ap, ◌∙◌, sym, arith}
+use Rattle.std.proofs.Common.{[], refl, ap, ◌∙◌, sym}
 use Rattle.std.proofs.lemmas.List.{append-nil}
 use Rattle.hm_order.specs.Order.{order}
-use Rattle.hm_rules.specs.Events.{Setup, Event}
 use Rattle.hm_rules.specs.World.{opens}
-use Rattle.hm_rules.specs.Runs.{slotted, run, full_events}
+use Rattle.hm_rules.specs.Runs.{run, full_events}
 use Rattle.hm_rules.specs.RunText.{events_text, order_text, bad_text, too_long_text, refused_events}
-use Rattle.hm_refusal_laws.specs.Slotting.{slot_text}
 use Rattle.hm_refusal_laws.proofs.Ends.{endless_from_all}
-use Rattle.hm_refusal_laws.proofs.FullRuns.{text_refuses}
-use Rattle.hm_refusal_laws.proofs.Shown.{Shows, shows_text, shows_order, shows_bad, shows_too_long, shown}
+use Rattle.hm_refusal_laws.proofs.Shown.{shows_order, shows_bad, shows_too_long, events_show}
 use Rattle.hm_refusal_laws.proofs.refusals.texts_show_their_refusals.Goals as goal
 
-ends_with : (setup : Setup) (es : List Event) (end : List ℕ) → length es < 2 ^ 32 → Shows end [] → refused_events (events_text 1 (opens setup) es (full_events setup es) ++ end) ≡ full_events setup es
-ends_with setup es end few p =
-    ap (λ (t : List ℕ). refused_events (t ++ end)) (text_refuses 1 (slotted (opens setup)) es)
-    ∙ shown (slot_text 1 (slotted (opens setup)) es) end (full_events setup es) (shows_text 1 (slotted (opens setup)) es (omega arith)) p
-
 pub returns-clause-whole : goal.returns-clause-whole
-returns-clause-whole c setup es few = ends_with setup es (order_text (order (run (opens setup) es (full_events setup es)).history)) few (shows_order _)
+returns-clause-whole c setup es few = events_show setup es (order_text (order (run (opens setup) es (full_events setup es)).history)) few (shows_order _)
 
 pub returns-clause-cut : goal.returns-clause-cut
 returns-clause-cut c setup es few =
-    ap refused_events (sym (append-nil (events_text 1 (opens setup) es (full_events setup es)))) ∙ ends_with setup es [] few (λ rest. refl)
+    ap refused_events (sym (append-nil (events_text 1 (opens setup) es (full_events setup es)))) ∙ events_show setup es [] few (λ rest. refl)
 
 pub returns-clause-bad : goal.returns-clause-bad
-returns-clause-bad c setup es line reason few whole = ends_with setup es (bad_text line reason) few (shows_bad line reason (endless_from_all reason whole))
+returns-clause-bad c setup es line reason few whole = events_show setup es (bad_text line reason) few (shows_bad line reason (endless_from_all reason whole))
 
 pub returns-clause-too_long : goal.returns-clause-too_long
-returns-clause-too_long c setup es line few = ends_with setup es (too_long_text line) few (shows_too_long line)
+returns-clause-too_long c setup es line few = events_show setup es (too_long_text line) few (shows_too_long line)

@@ -1,4 +1,4 @@
-use Rattle.std.proofs.Common.{◌≡◌, ◌+◌, ◌≤◌, ◌<◌, ℕ, List, [], refl, sym, subst, ◌∙◌, arith}
+use Rattle.std.proofs.Common.{◌≡◌, ◌+◌, ◌≤◌, ◌<◌, ℕ, [], subst, ◌∙◌, arith}
 use Rattle.hm_world.specs.Declares.{max_events}
 use Rattle.hm_schedule.specs.Orders.{Stage}
 use Rattle.hm_frame.proofs.KnownBytes.{consumes_none, appends_none}
