@@ -5,7 +5,8 @@ use Rattle.hm_base.specs.declared.node.GroupKind.TheVariants.{Chain}
 use Rattle.hm_dirtyset.specs.Table.{Table, slots_of}
 use Rattle.hm_packet.specs.Steps.{max_outs}
 use Rattle.hm_rules.specs.Replica.{Replica}
-use Rattle.hm_rules.specs.Runs.{Slotted}
+use Rattle.hm_rules.specs.Runs.{Slotted, slotted_after}
+use Rattle.hm_rules.specs.Switch.{AbstractSwitch}
 use Rattle.hm_rules.specs.World as rule
 use Rattle.hm_world.specs.declared.client.ClientState.{ClientState}
 use Rattle.hm_world.specs.declared.state.State.TheInside.{Inside}
@@ -35,6 +36,14 @@ parts_of w =
 -- the rules' world with the slots of its switches
 abbrev pub slotted_of : Parts → Slotted
 slotted_of p = record { world = p.world; slots = map slots_of p.tables }
+
+-- the switches with their dirty tables
+abbrev pub switches_of : Parts → List AbstractSwitch × List Table
+switches_of p = (p.world.switches, p.tables)
+
+-- each write that was numbered since went into its switch's slots
+abbrev pub SlotsFollow : Parts → Parts → Type 0
+SlotsFollow old new = slotted_of new ≡ slotted_after (slotted_of old) new.world
 
 -- a chain's member, which stages no list
 pub record IsMember (cap : ℕ) (r : Replica) : Type 0 where
