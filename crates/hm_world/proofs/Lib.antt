@@ -1,5 +1,6 @@
 pub mod ClientLemmas
-pub mod SwitchLemmas
+pub mod Numbered
+pub mod SlotLemmas
 pub mod DeclareLemmas
 pub mod EventLemmas
 pub mod ReplicaLemmas

@@ -1,10 +1,13 @@
 -- What a lawful setup is.
-use Rattle.std.proofs.Common.{◌≡◌, ◌≤◌, Bool, true, false, Option, Some, None, refl, sym}
-use Rattle.std.specs.Prelude.{nat_le, not, ◌&&◌}
+use Rattle.std.proofs.Common.{◌≡◌, ◌≤◌, Bool, true, false, Option, Some, None, refl, sym, ap, ◌∙◌}
+use Rattle.std.specs.Prelude.{nat_le, not, ◌&&◌, if◌then◌else◌}
 use Rattle.std.proofs.lemmas.Bool.{cond_both, and_parts, leb-true, false≢true}
 use Rattle.std.proofs.lemmas.Option.{none-some}
 use Rattle.hm_base.specs.declared.node.GroupKind.{GroupKind}
 use Rattle.hm_base.specs.declared.node.GroupKind.TheVariants as kind
+use Rattle.hm_switch.specs.declared.fault.SwitchFault.{SwitchFault}
+use Rattle.hm_switch.specs.declared.fault.SwitchFault.TheVariants as switch
+use Rattle.hm_switch.specs.Faults.{switch_fault}
 use Rattle.hm_world.specs.declared.event.Setup.{Setup}
 use Rattle.hm_world.specs.declared.fault.WorldFault.{WorldFault}
 use Rattle.hm_world.specs.declared.fault.WorldFault.TheVariants as fault
@@ -15,6 +18,7 @@ pub record IsLawful (s : Setup) : Type 0 where
   pub some : 1 ≤ s.size
   pub few : s.size ≤ 7
   pub cap : s.cap ≤ 16384
+  pub switch : switch_fault 1 s.stages s.bits s.life ≡ None
 
 chain_is : (k : GroupKind) → is_chain k ≡ true → k ≡ kind.Chain
 chain_is kind.Chain e = refl
@@ -24,6 +28,12 @@ chain_is kind.Vr e = absurd (false≢true e)
 kept : (b : Bool) → not b ≡ false → b ≡ true
 kept true e = refl
 kept false e = absurd (false≢true (sym e))
+
+abbrev switch_by : Bool → Bool → Bool → Option SwitchFault
+switch_by stages bits life = if stages then Some switch.Stages else if bits then Some switch.Bits else if life then Some switch.Life else None
+
+switch_lawful : (stages bits life : Bool) → stages ≡ false → bits ≡ false → life ≡ false → switch_by stages bits life ≡ None
+switch_lawful stages bits life s b l = ap (λ (x : Bool). switch_by x bits life) s ∙ ap (λ (x : Bool). switch_by false x life) b ∙ ap (λ (x : Bool). switch_by false false x) l
 
 abbrev Lawful : Setup → Option WorldFault → Type 0
 Lawful s o = o ≡ None → IsLawful s
@@ -39,4 +49,4 @@ lawful s =
     let of_group = and_parts (is_chain s.kind) (nat_le 1 s.size && nat_le s.size 7) (kept _ group) in
     let of_size = and_parts (nat_le 1 s.size) (nat_le s.size 7) of_group.1 in
     let of_cap = and_parts (nat_le 1 s.cap) (nat_le s.cap 16384) (kept _ cap) in
-    record { kind = chain_is s.kind of_group.0; some = leb-true 1 s.size of_size.0; few = leb-true s.size 7 of_size.1; cap = leb-true s.cap 16384 of_cap.1 })))))
+    record { kind = chain_is s.kind of_group.0; some = leb-true 1 s.size of_size.0; few = leb-true s.size 7 of_size.1; cap = leb-true s.cap 16384 of_cap.1; switch = switch_lawful _ _ _ stages bits life })))))

@@ -29,6 +29,7 @@ pub record IsBegun (w : Parts) : Type 0 where
   pub switches : All (λ (s : AbstractSwitch). s.handled < w.events) w.world.switches
   pub clients : All (λ (c : rule.Client). c.request < w.events) w.world.clients
   pub ready : IsReady w.world
+  pub tables : length w.tables ≡ length w.world.switches
 
 -- a node's step takes none of the room
 pub record SameRooms (old new : Parts) : Type 0 where

@@ -1,4 +1,5 @@
-pub mod SwitchFields
+pub mod Slotted
+pub mod SlottedFields
 pub mod Declares
 pub mod Setups
 pub mod Clients

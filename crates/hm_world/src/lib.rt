@@ -5,8 +5,8 @@ mod client;
 mod declared;
 pub mod event;
 pub mod fault;
-mod node_switch;
 mod nodes;
+mod slotted;
 mod state;
 #[cfg(test)]
 mod tests;

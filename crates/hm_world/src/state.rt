@@ -3,10 +3,13 @@ ghost use Rattle.hm_base.specs.declared.node.GroupKind.TheVariants as kind;
 ghost use Rattle.hm_packet.specs.Messages.{Message};
 ghost use Rattle.hm_packet.specs.Steps.{max_outs};
 ghost use Rattle.hm_reconfig.specs.Groups.{remove_fault};
+ghost use Rattle.hm_rules.specs.Senders as senders;
 ghost use Rattle.hm_rules.specs.Switch.{AbstractSwitch, switch_step};
 ghost use Rattle.hm_rules.specs.Replica.{Replica};
 ghost use Rattle.hm_rules.specs.Chain.{chain_step, chain_tick};
 ghost use Rattle.hm_rules.specs.Declared.{declared_after, commits_since};
+ghost use Rattle.hm_rules.specs.Runs.{slotted, finds_full_in, finds_full_with};
+ghost use Rattle.hm_refusal_laws.specs.Slotting.{slot_happens, slot_step};
 ghost use Rattle.hm_rules.specs.World as rule;
 ghost use Rattle.hm_rules.specs.Deliveries as arrival;
 ghost use Rattle.hm_rules.specs.Happens as rules;
@@ -19,8 +22,8 @@ use crate::client::{ClientState, fits, keep, request_to};
 use crate::declared::declare;
 use crate::event::{Event, Setup};
 use crate::fault::{WorldFault, bar_of, fault_of};
-use crate::node_switch::Switch;
 use crate::nodes::{is_in, log_at, open_replicas, step_at, tick_at};
+use crate::slotted::SlottedSwitch;
 use hm_base::entry::Entry;
 use hm_base::memory::NoMemory;
 use hm_base::node::Node;
@@ -50,7 +53,7 @@ pub struct State {
     setup: Setup,
     net: Vec<Packet>,
     cursor: u32,
-    switch: Switch,
+    switch: SlottedSwitch,
     replicas: Vec<Chain>,
     stopped: Vec<u8>,
     service: Service,
@@ -72,11 +75,12 @@ impl Model for State {
 
 impl State {
     ghost use Rattle.hm_world.specs.Setups.{setup_of, setup_fault, event_of};
+    ghost use Rattle.hm_world.specs.StateFields.{slotted_of, switches_of, SlotsFollow};
     ghost use Rattle.hm_world.specs.Begun.{HasRoom, IsBegun, IsFront, IsReady, SameRooms};
 
     /// The state before the first event. The faults are as those of the world.
     pub(crate) fn open(alloc: Global, setup: &Setup) -> Result<State, WorldFault>
-        ensures opened { IfOk result (λ w. w.world ≡ rule.opens (setup_of setup.now)) }
+        ensures opened { IfOk result (λ w. slotted_of w ≡ slotted (rule.opens (setup_of setup.now))) }
         ensures events { IfOk result (λ w. w.events ≡ 0) }
         ensures lawful { OnOk result (setup_fault setup.now ≡ None) }
         ensures fault { IfErr result (λ f. (f ≡ WorldFault.NoMemory) ⊎ (setup_fault setup.now ≡ Some f)) }
@@ -91,7 +95,14 @@ impl State {
             setup: *setup,
             net: Vec::new(alloc),
             cursor: 0,
-            switch: Switch::open(alloc, 1, setup.stages, setup.life, &route)?,
+            switch: SlottedSwitch::open(
+                alloc,
+                1,
+                setup.stages,
+                setup.bits,
+                setup.life,
+                &route,
+            )?,
             replicas,
             stopped: Vec::new(alloc),
             service,
@@ -106,15 +117,25 @@ impl State {
     pub(crate) fn event(&mut self, event: &Event) -> Result<Outcome, NoMemory>
         requires few { self.old.events < max_events }
         requires ready { IsReady self.old.world }
-        ensures world { OnOk result (self.new.world ≡ (rules.happens self.old.world (event_of event.now) false).world) }
-        ensures outcome { IfOk result (λ o. o ≡ (rules.happens self.old.world (event_of event.now) false).outcome) }
+        ensures world { OnOk result (slotted_of self.new ≡ slot_step (slotted_of self.old) (event_of event.now)) }
+        ensures outcome { IfOk result (λ o. o ≡ (slot_happens (slotted_of self.old) (event_of event.now)).outcome) }
         ensures counted { OnOk result (self.new.events ≡ self.old.events + 1) }
-        ensures err { OnErr result (self.new.world ≡ self.old.world) }
+        ensures err { OnErr result (slotted_of self.new ≡ slotted_of self.old) }
         ensures err_events { OnErr result (self.new.events ≡ self.old.events) }
     {
         self.make_room()?;
         self.begin();
-        Ok(match event {
+        Ok(self.take(event))
+    }
+
+    /// What an event does once there is room for it.
+    fn take(&mut self, event: &Event) -> Outcome
+        requires { IsBegun self.old }
+        ensures world { slotted_of self.new ≡ slot_step (slotted_of self.old) (event_of event.now) }
+        ensures outcome { result ≡ (slot_happens (slotted_of self.old) (event_of event.now)).outcome }
+        ensures events { self.new.events ≡ self.old.events }
+    {
+        match event {
             Event::Write {
                 client,
                 object,
@@ -139,7 +160,7 @@ impl State {
             Event::Tick { replica } => self.tick(*replica),
             Event::Stop { replica } => self.stop(*replica),
             Event::Remove { replica } => self.remove(*replica),
-        })
+        }
     }
 
     /// How many events were answered since opening, otherwise than by want of memory.
@@ -177,6 +198,7 @@ impl State {
     /// Takes all the room that one event may need.
     fn make_room(&mut self) -> Result<(), NoMemory>
         ensures world { self.new.world ≡ self.old.world }
+        ensures tables { self.new.tables ≡ self.old.tables }
         ensures events { self.new.events ≡ self.old.events }
         ensures room { OnOk result (HasRoom self.new) }
     {
@@ -193,6 +215,7 @@ impl State {
         requires room { HasRoom self.old }
         requires ready { IsReady self.old.world }
         ensures world { self.new.world ≡ self.old.world }
+        ensures tables { self.new.tables ≡ self.old.tables }
         ensures events { self.new.events ≡ self.old.events + 1 }
         ensures begun { IsBegun self.new }
     {
@@ -204,6 +227,7 @@ impl State {
         requires { IsBegun self.old }
         ensures world { self.new.world ≡ (rules.invokes self.old.world (rule.client_of self.old.world number) want switch).world }
         ensures outcome { result ≡ (rules.invokes self.old.world (rule.client_of self.old.world number) want switch).outcome }
+        ensures switches { switches_of self.new ≡ switches_of self.old }
         ensures events { self.new.events ≡ self.old.events }
     {
         if !self.is_started(switch) {
@@ -235,6 +259,7 @@ impl State {
         requires { IsBegun self.old }
         ensures world { self.new.world ≡ (rules.happens self.old.world (event_of (Event.Resend number switch)) false).world }
         ensures outcome { result ≡ (rules.happens self.old.world (event_of (Event.Resend number switch)) false).outcome }
+        ensures switches { switches_of self.new ≡ switches_of self.old }
         ensures events { self.new.events ≡ self.old.events }
     {
         if !self.is_started(switch) {
@@ -259,8 +284,9 @@ impl State {
     /// The packet of this number arrives, whether or not it did before.
     fn deliver_again(&mut self, number: u32) -> Outcome
         requires { IsBegun self.old }
-        ensures world { self.new.world ≡ (arrival.deliver false self.old.world (rule.sent_at self.old.world number)).world }
-        ensures outcome { result ≡ (arrival.deliver false self.old.world (rule.sent_at self.old.world number)).outcome }
+        ensures world { self.new.world ≡ (arrival.deliver (finds_full_with (slotted_of self.old) (rule.sent_at self.old.world number)) self.old.world (rule.sent_at self.old.world number)).world }
+        ensures outcome { result ≡ (arrival.deliver (finds_full_with (slotted_of self.old) (rule.sent_at self.old.world number)) self.old.world (rule.sent_at self.old.world number)).outcome }
+        ensures slots { SlotsFollow self.old self.new }
         ensures events { self.new.events ≡ self.old.events }
     {
         match self.sent(number) {
@@ -272,8 +298,9 @@ impl State {
     /// The packet at the cursor arrives, if there is one.
     fn next(&mut self) -> Outcome
         requires { IsBegun self.old }
-        ensures world { self.new.world ≡ (rules.next false self.old.world (slice_get self.old.world.net self.old.world.cursor)).world }
-        ensures outcome { result ≡ (rules.next false self.old.world (slice_get self.old.world.net self.old.world.cursor)).outcome }
+        ensures world { self.new.world ≡ (rules.next (finds_full_with (slotted_of self.old) (slice_get self.old.world.net self.old.world.cursor)) self.old.world (slice_get self.old.world.net self.old.world.cursor)).world }
+        ensures outcome { result ≡ (rules.next (finds_full_with (slotted_of self.old) (slice_get self.old.world.net self.old.world.cursor)) self.old.world (slice_get self.old.world.net self.old.world.cursor)).outcome }
+        ensures slots { SlotsFollow self.old self.new }
         ensures events { self.new.events ≡ self.old.events }
     {
         match packet_at(&self.net, self.cursor) {
@@ -290,6 +317,7 @@ impl State {
         requires { IsBegun self.old }
         ensures world { self.new.world ≡ (rules.drops self.old.world (slice_get self.old.world.net self.old.world.cursor)).world }
         ensures outcome { result ≡ (rules.drops self.old.world (slice_get self.old.world.net self.old.world.cursor)).outcome }
+        ensures switches { switches_of self.new ≡ switches_of self.old }
         ensures events { self.new.events ≡ self.old.events }
     {
         match self.net.get(self.cursor as usize) {
@@ -322,8 +350,9 @@ impl State {
     /// A packet arrives at the node that it is addressed to.
     fn deliver(&mut self, packet: &Packet) -> Outcome
         requires { IsBegun self.old }
-        ensures world { self.new.world ≡ (arrival.to_node false self.old.world packet.now packet.now.dst).world }
-        ensures outcome { result ≡ (arrival.to_node false self.old.world packet.now packet.now.dst).outcome }
+        ensures world { self.new.world ≡ (arrival.to_node (finds_full_in (slotted_of self.old) (senders.number packet.now.dst) packet.now.body) self.old.world packet.now packet.now.dst).world }
+        ensures outcome { result ≡ (arrival.to_node (finds_full_in (slotted_of self.old) (senders.number packet.now.dst) packet.now.body) self.old.world packet.now packet.now.dst).outcome }
+        ensures slots { SlotsFollow self.old self.new }
         ensures events { self.new.events ≡ self.old.events }
     {
         match packet.dst {
@@ -339,6 +368,7 @@ impl State {
         requires { IsBegun self.old }
         ensures world { self.new.world ≡ (arrival.to_service self.old.world (service.service_step self.old.world.service packet.now)).world }
         ensures outcome { result ≡ (arrival.to_service self.old.world (service.service_step self.old.world.service packet.now)).outcome }
+        ensures switches { switches_of self.new ≡ switches_of self.old }
         ensures events { self.new.events ≡ self.old.events }
     {
         match self.step_service(packet) {
@@ -361,6 +391,7 @@ impl State {
         requires { IsBegun self.old }
         ensures world { self.new.world ≡ (arrival.to_client self.old.world (rule.client_of self.old.world number) body.now).world }
         ensures outcome { result ≡ (arrival.to_client self.old.world (rule.client_of self.old.world number) body.now).outcome }
+        ensures switches { switches_of self.new ≡ switches_of self.old }
         ensures events { self.new.events ≡ self.old.events }
     {
         match body {
@@ -374,6 +405,7 @@ impl State {
         requires { IsBegun self.old }
         ensures world { self.new.world ≡ (arrival.on_reply self.old.world (rule.client_of self.old.world number) reply.now (rule.client_of self.old.world number).outstanding).world }
         ensures outcome { result ≡ (arrival.on_reply self.old.world (rule.client_of self.old.world number) reply.now (rule.client_of self.old.world number).outstanding).outcome }
+        ensures switches { switches_of self.new ≡ switches_of self.old }
         ensures events { self.new.events ≡ self.old.events }
     {
         let client = self.client(number);
@@ -399,6 +431,7 @@ impl State {
         requires same { (rule.client_of self.old.world number).request ≡ reply.now.request }
         requires few { reply.now.request ≤ self.old.events }
         ensures world { self.new.world ≡ arrival.answered self.old.world (rule.client_of self.old.world number) reply.now }
+        ensures switches { switches_of self.new ≡ switches_of self.old }
         ensures events { self.new.events ≡ self.old.events }
     {
         let op = OpId {
@@ -422,8 +455,9 @@ impl State {
     /// A packet arrives at a switch. Only switch 1 is started.
     fn to_switch(&mut self, number: u32, packet: &Packet) -> Outcome
         requires { IsBegun self.old }
-        ensures world { self.new.world ≡ (arrival.to_switch false self.old.world packet.now number (rule.switch_at self.old.world number)).world }
-        ensures outcome { result ≡ (arrival.to_switch false self.old.world packet.now number (rule.switch_at self.old.world number)).outcome }
+        ensures world { self.new.world ≡ (arrival.to_switch (finds_full_in (slotted_of self.old) number packet.now.body) self.old.world packet.now number (rule.switch_at self.old.world number)).world }
+        ensures outcome { result ≡ (arrival.to_switch (finds_full_in (slotted_of self.old) number packet.now.body) self.old.world packet.now number (rule.switch_at self.old.world number)).outcome }
+        ensures slots { SlotsFollow self.old self.new }
         ensures events { self.new.events ≡ self.old.events }
     {
         if !self.is_started(number) {
@@ -456,7 +490,9 @@ impl State {
         requires { IsBegun self.old }
         ensures rooms { SameRooms self.old self.new }
         ensures step { (s : AbstractSwitch) → rule.switch_at self.old.world 1 ≡ Some s
-            → (self.new ≡ record self.old { world = arrival.with_switch self.old.world 1 (switch_step false s packet.now).switch }) × (result ≡ (switch_step false s packet.now).turn) }
+            → (self.new ≡ record self.old { world = arrival.with_switch self.old.world 1 (switch_step (finds_full_in (slotted_of self.old) 1 packet.now.body) s packet.now).switch; tables = self.new.tables })
+            × (result ≡ (switch_step (finds_full_in (slotted_of self.old) 1 packet.now.body) s packet.now).turn) }
+        ensures slots { SlotsFollow self.old self.new }
     {
         self.switch.step(packet)
     }
@@ -466,6 +502,7 @@ impl State {
         requires { IsBegun self.old }
         ensures world { self.new.world ≡ (arrival.to_replica self.old.world packet.now number (slice_get self.old.world.replicas number)).world }
         ensures outcome { result ≡ (arrival.to_replica self.old.world packet.now number (slice_get self.old.world.replicas number)).outcome }
+        ensures switches { switches_of self.new ≡ switches_of self.old }
         ensures events { self.new.events ≡ self.old.events }
     {
         if self.bar_at(number).is_some() {
@@ -480,6 +517,7 @@ impl State {
         requires { IsBegun self.old }
         ensures world { self.new.world ≡ (rules.happens self.old.world (event_of (Event.Tick number)) false).world }
         ensures outcome { result ≡ (rules.happens self.old.world (event_of (Event.Tick number)) false).outcome }
+        ensures switches { switches_of self.new ≡ switches_of self.old }
         ensures events { self.new.events ≡ self.old.events }
     {
         if let Some(bar) = self.bar_at(number) {
@@ -494,6 +532,7 @@ impl State {
         requires { IsBegun self.old }
         ensures world { self.new.world ≡ (rules.happens self.old.world (event_of (Event.Stop number)) false).world }
         ensures outcome { result ≡ (rules.happens self.old.world (event_of (Event.Stop number)) false).outcome }
+        ensures switches { switches_of self.new ≡ switches_of self.old }
         ensures events { self.new.events ≡ self.old.events }
     {
         if let Some(bar) = self.bar_at(number) {
@@ -538,6 +577,7 @@ impl State {
         requires there { number < length self.old.world.replicas }
         requires front { IsFront self.old.world number }
         ensures rooms { SameRooms self.old self.new }
+        ensures switches { switches_of self.new ≡ switches_of self.old }
         ensures few { length result.outs ≤ max_outs }
         ensures step { (r : Replica) → slice_get self.old.world.replicas number ≡ Some r → IsStep self.old self.new number result (chain_step r packet.now) }
         ensures count { length self.new.world.replicas ≡ length self.old.world.replicas }
@@ -552,6 +592,7 @@ impl State {
         requires there { number < length self.old.world.replicas }
         requires front { IsFront self.old.world number }
         ensures rooms { SameRooms self.old self.new }
+        ensures switches { switches_of self.new ≡ switches_of self.old }
         ensures few { length result.outs ≤ max_outs }
         ensures step { (r : Replica) → slice_get self.old.world.replicas number ≡ Some r → IsStep self.old self.new number result (chain_tick r) }
         ensures count { length self.new.world.replicas ≡ length self.old.world.replicas }
@@ -571,6 +612,7 @@ impl State {
         requires front { IsFront self.old.world number }
         ensures world { (r : Replica) → slice_get self.old.world.replicas number ≡ Some r → self.new.world ≡ (settled self.old.world r.log acted.now acted.now.did).world }
         ensures outcome { (r : Replica) → slice_get self.old.world.replicas number ≡ Some r → result ≡ (settled self.old.world r.log acted.now acted.now.did).outcome }
+        ensures switches { switches_of self.new ≡ switches_of self.old }
         ensures events { self.new.events ≡ self.old.events }
     {
         let first = self.sent_count() + 1;
@@ -595,6 +637,7 @@ impl State {
         requires front { IsFront self.old.world number }
         ensures world { (r : Replica) → slice_get self.old.world.replicas number ≡ Some r
             → self.new.world ≡ record self.old.world { declared = declared_after self.old.world.declared r.log to; history = self.old.world.history ++ commits_since self.old.world.declared (declared_after self.old.world.declared r.log to) } }
+        ensures switches { switches_of self.new ≡ switches_of self.old }
         ensures events { self.new.events ≡ self.old.events }
         ensures net { self.new.world.net ≡ self.old.world.net }
         ensures net_room { self.new.net_room ≡ self.old.net_room }
@@ -609,6 +652,7 @@ impl State {
         requires { IsBegun self.old }
         ensures world { self.new.world ≡ (rules.removal self.old.world number).world }
         ensures outcome { result ≡ (rules.removal self.old.world number).outcome }
+        ensures switches { switches_of self.new ≡ switches_of self.old }
         ensures events { self.new.events ≡ self.old.events }
     {
         if is_member(self.service.members(), number) && !self.is_stopped(number) {

@@ -1,6 +1,7 @@
-ghost use Rattle.std.specs.Prelude.{◌≡◌, ◌<◌, ◌≤◌, ◌+◌, ◌⊎◌, ℕ, false, length, Some, None, IfOk, IfErr, OnOk, OnErr};
+ghost use Rattle.std.specs.Prelude.{◌≡◌, ◌<◌, ◌≤◌, ◌+◌, ◌⊎◌, ℕ, length, Some, None, IfOk, IfErr, OnOk, OnErr};
 ghost use Rattle.hm_rules.specs.World as rule;
-ghost use Rattle.hm_rules.specs.Happens as rules;
+ghost use Rattle.hm_rules.specs.Runs.{slotted};
+ghost use Rattle.hm_refusal_laws.specs.Slotting.{slot_happens, slot_step};
 ghost use Rattle.hm_world.specs.Declares.{max_events, max_packets};
 
 use crate::event::{Event, Setup};
@@ -33,11 +34,12 @@ impl Model for World {
 
 impl World {
     ghost use Rattle.hm_world.specs.Setups.{setup_of, setup_fault, event_of};
+    ghost use Rattle.hm_world.specs.WorldFields.{with_slots};
 
     /// A world before its first event: switch 1 is started, and nothing was sent. The faults come exactly where that part of
     /// the setup is the first out of its range, and NoMemory where memory is wanting.
     pub fn open(alloc: Global, setup: &Setup) -> Result<World, WorldFault>
-        ensures opened { IfOk result (λ w. w.world ≡ rule.opens (setup_of setup.now)) }
+        ensures opened { IfOk result (λ w. with_slots w ≡ slotted (rule.opens (setup_of setup.now))) }
         ensures events { IfOk result (λ w. w.events ≡ 0) }
         ensures lawful { OnOk result (setup_fault setup.now ≡ None) }
         ensures fault { IfErr result (λ f. (f ≡ WorldFault.NoMemory) ⊎ (setup_fault setup.now ≡ Some f)) }
@@ -48,13 +50,13 @@ impl World {
         })
     }
 
-    /// One event, with its bars in order. A barred event changes nothing; want of memory changes nothing.
+    /// One event, with its bars in order. A switch refuses a write exactly where its slots are full for the object. A barred event changes nothing; want of memory changes nothing.
     pub fn event(&mut self, event: &Event) -> Result<Outcome, NoMemory>
         requires { self.old.events < max_events }
-        ensures world { OnOk result (self.new.world ≡ (rules.happens self.old.world (event_of event.now) false).world) }
-        ensures outcome { IfOk result (λ o. o ≡ (rules.happens self.old.world (event_of event.now) false).outcome) }
+        ensures world { OnOk result (with_slots self.new ≡ slot_step (with_slots self.old) (event_of event.now)) }
+        ensures outcome { IfOk result (λ o. o ≡ (slot_happens (with_slots self.old) (event_of event.now)).outcome) }
         ensures counted { OnOk result (self.new.events ≡ self.old.events + 1) }
-        ensures err { OnErr result (self.new.world ≡ self.old.world) }
+        ensures err { OnErr result (with_slots self.new ≡ with_slots self.old) }
         ensures err_events { OnErr result (self.new.events ≡ self.old.events) }
     {
         chain_stays_sound();

@@ -1,4 +1,4 @@
-use Rattle.std.proofs.Common.{◌≡◌, ◌+◌, ◌<◌, [], subst, sym, ap, arith}
+use Rattle.std.proofs.Common.{◌≡◌, ◌+◌, ◌<◌, [], refl, subst, sym, ap, arith}
 use Rattle.std.proofs.lemmas.List.Elements.{All-nil, All-cons}
 use Rattle.hm_rules.specs.Switch.{AbstractSwitch}
 use Rattle.hm_world.specs.Declares.{max_events}
@@ -17,7 +17,8 @@ returns-clause-begun c =
       room = record { net = room.net; marks = room.marks; clients = room.clients; stops = room.stops };
       few = (let few : c.args.self.now.events < max_events = c.requires.few in let same : w.events ≡ c.args.self.now.events = ap (λ (x : Parts). x.events) c.self.view_is in omega arith);
       net = omega (arith, h.net);
-      switches = All-cons (λ (s : AbstractSwitch). s.handled < w.events + 1) w.switch [] (omega (arith, h.handled)) (All-nil (λ (s : AbstractSwitch). s.handled < w.events + 1));
+      switches = All-cons (λ (s : AbstractSwitch). s.handled < w.events + 1) w.switch.switch [] (omega (arith, h.handled)) (All-nil (λ (s : AbstractSwitch). s.handled < w.events + 1));
       clients = requests_below w.clients.entries w.events (w.events + 1) (omega arith) h.requests;
       ready = record { front = ready.front };
+      tables = refl;
     }

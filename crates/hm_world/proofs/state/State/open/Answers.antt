@@ -1,10 +1,14 @@
-use Rattle.std.proofs.Common.{◌≡◌, ℕ, ◌≤◌, List, length, subst, sym, ap, ◌∙◌, arith}
+use Rattle.std.proofs.Common.{◌≡◌, ℕ, ◌≤◌, List, [], ◌∷◌, length, subst, sym, ap, ◌∙◌, arith}
 use Rattle.std.specs.Prelude.{All}
 use Rattle.std.proofs.lemmas.List.Elements.{All-nil}
 use Rattle.hm_world.specs.declared.client.ClientState.{ClientState}
 use Rattle.hm_rules.specs.Replica.{Replica}
 use Rattle.hm_rules.specs.Service.{Service, replicas_below}
 use Rattle.hm_rules.specs.Switch.{AbstractSwitch}
+use Rattle.hm_rules.specs.World.{World, opens}
+use Rattle.hm_base.specs.Slots.{Slots}
+use Rattle.hm_dirtyset.specs.Table.{slots_of}
+use Rattle.hm_world.specs.Setups.{setup_of}
 use Rattle.hm_world.specs.Clients.{clients_of}
 use Rattle.hm_world.specs.StateFields.{IsMember}
 use Rattle.hm_world.proofs.SetupLemmas.{lawful}
@@ -17,7 +21,7 @@ invariant_of-result c =
     let s = c.args.setup.now in
     let l = lawful s (sym c.fault_of.ensures ∙ c.in_default.is) in
     let none : length c.new.result.items ≡ 0 = ap (λ xs. length xs) c.new.ensures.items in
-    let handled : c.in_ok-open.field-0.handled ≡ 0 = ap (λ (s : AbstractSwitch). s.handled) c.in_ok-open.ensures in
+    let handled : c.in_ok-open.field-0.switch.handled ≡ 0 = ap (λ (s : AbstractSwitch). s.handled) c.in_ok-open.ensures.switch in
     record {
       kind = l.kind;
       events = omega arith;
@@ -33,5 +37,10 @@ invariant_of-result c =
 
 pub returns-clause-opened : goal.returns-clause-opened
 returns-clause-opened c =
-    opens_is c.args.setup.now _ _ _ _ _ _ _ _ _ _ c.new.ensures.items c.in_ok-open.ensures c.route-route.ensures c.open-service.ensures c.in_ok-replicas.ensures c.members.ensures c.new-2.ensures.items
-    (ap clients_of c.new-3.ensures.empty) c.in_ok-with_capacity.ensures.items c.new-4.ensures
+    ap (λ (w : World). record { world = w; slots = slots_of c.in_ok-open.field-0.table ∷ [] })
+    (opens_is c.args.setup.now _ _ _ _ _ _ _ _ _ _ c.new.ensures.items c.in_ok-open.ensures.switch c.route-route.ensures c.open-service.ensures c.in_ok-replicas.ensures c.members.ensures c.new-2.ensures.items
+    (ap clients_of c.new-3.ensures.empty) c.in_ok-with_capacity.ensures.items c.new-4.ensures)
+    ∙ ap (λ (t : Slots). record { world = opens (setup_of c.args.setup.now); slots = t ∷ [] }) c.in_ok-open.ensures.slots
+
+pub open-requires : goal.open-requires
+open-requires c = (lawful c.args.setup.now (sym c.fault_of.ensures ∙ c.in_default.is)).switch
