@@ -15,7 +15,7 @@ use Rattle.hm_switch.specs.State.{SwitchState}
 use Rattle.hm_dirtyset.specs.Table.{slots_of}
 use Rattle.hm_switch.specs.StandsFor.{StandsFor, TurnsTo, refuses, refuses_body, slots_then}
 use Rattle.hm_world.specs.declared.slotted.SlottedSwitch.TheInside.{Inside}
-use Rattle.hm_world.specs.Slotted.{Seen, fills, put_in, put_objects}
+use Rattle.hm_world.specs.Slotted.{fills, put_in, put_objects}
 use Rattle.hm_world.specs.SlottedFields.{abstract_of, seen_of}
 
 -- a turn numbers just the write that it sends on, and the count of packets stays

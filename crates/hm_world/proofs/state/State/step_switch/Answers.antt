@@ -2,7 +2,6 @@ use Rattle.std.proofs.Common.{◌≡◌, ◌+◌, ◌<◌, ◌≤◌, [], ◌∷
 use Rattle.std.specs.Prelude.{All, Some}
 use Rattle.std.proofs.lemmas.Option.{same_Some}
 use Rattle.hm_base.specs.Slots.{Slots}
-use Rattle.hm_packet.specs.declared.turn.Turn.{Turn}
 use Rattle.hm_rules.specs.Deliveries.{with_switch}
 use Rattle.hm_rules.specs.Runs.{finds_full_in}
 use Rattle.hm_rules.specs.Switch.{AbstractSwitch, switch_step}
@@ -40,8 +39,8 @@ returns-clause-step c =
     let m = c.args.packet.now in
     let new = c.step.new.self in
     subst (λ (x : Parts). (s : AbstractSwitch) → switch_at x.world 1 ≡ Some s
-        → (record (parts_of w) { world = record (world_of w) { switches = new.switch ∷ [] }; tables = new.table ∷ [] } ≡ record x { world = with_switch x.world 1 (switch_step (finds_full_in (slotted_of x) 1 m.body) s m).switch; tables = new.table ∷ [] })
-        × (c.step.result ≡ (switch_step (finds_full_in (slotted_of x) 1 m.body) s m).turn)) c.self.view_is
+    → (record (parts_of w) { world = record (world_of w) { switches = new.switch ∷ [] }; tables = new.table ∷ [] } ≡ record x { world = with_switch x.world 1 (switch_step (finds_full_in (slotted_of x) 1 m.body) s m).switch; tables = new.table ∷ [] })
+    × (c.step.result ≡ (switch_step (finds_full_in (slotted_of x) 1 m.body) s m).turn)) c.self.view_is
     (λ s here.
     let same : w.switch.switch ≡ s = same_Some _ _ here in
     let switch = c.step.ensures.switch ∙ ap (λ (b : Bool). (switch_step b w.switch.switch m).switch) (sym (fills_first w m.body)) ∙ ap (λ (q : AbstractSwitch). (switch_step (finds_full_in (slotted_of (parts_of w)) 1 m.body) q m).switch) same in
