@@ -15,7 +15,7 @@ use Rattle.hm_switch.specs.State.{SwitchState}
 use Rattle.hm_dirtyset.specs.Table.{slots_of}
 use Rattle.hm_switch.specs.StandsFor.{StandsFor, TurnsTo, refuses, refuses_body, slots_then}
 use Rattle.hm_world.specs.declared.slotted.SlottedSwitch.TheInside.{Inside}
-use Rattle.hm_world.specs.Slotted.{Seen, fills, put_in, put_objects}
+use Rattle.hm_world.specs.Slotted.{finds_full, put_in, put_objects}
 use Rattle.hm_world.specs.SlottedFields.{abstract_of, seen_of}
 
 -- a turn numbers just the write that it sends on, and the count of packets stays
@@ -80,13 +80,13 @@ abstract_is : (seen : SwitchState) (s : AbstractSwitch) (numbered : List ℕ) �
 abstract_is seen s numbered h same =
     rw (same, h.id, h.point, h.stamped, h.handled, h.route, h.stages, h.life) refl
 
-refuses_is : (w : Inside) (b : Body) → refuses_body w.switch b ≡ fills (seen_of w) b
+refuses_is : (w : Inside) (b : Body) → refuses_body w.switch b ≡ finds_full (seen_of w) b
 refuses_is w (body.Write write) = refl
 refuses_is w other = refl
 
 -- what a step is to the switch and its objects together
 pub record Steps (w : Inside) (new : SwitchState) (items : List ℕ) (m : Message) : Type 0 where
-  pub switch : abstract_of new items ≡ (switch_step (fills (seen_of w) m.body) (seen_of w).switch m).switch
+  pub switch : abstract_of new items ≡ (switch_step (finds_full (seen_of w) m.body) (seen_of w).switch m).switch
   pub slots : slots_of new.dirty ≡ slots_then (slots_of w.switch.dirty) (seen_of w).switch (abstract_of new items)
   pub stands : StandsFor new (abstract_of new items)
   pub few : length items ≤ new.handled

@@ -1,5 +1,5 @@
 -- The slots of the switches after an event, and which writes find them full.
-use Rattle.std.proofs.Common.{◌≡◌, ℕ, ◌+◌, Bool, List, [], ◌∷◌, length, drop, map, Option, Some, refl, sym, ap, ◌∙◌, subst, arith}
+use Rattle.std.proofs.Common.{◌≡◌, ℕ, ◌+◌, Bool, List, [], ◌∷◌, length, map, Option, Some, refl, sym, ap, ◌∙◌, subst, arith}
 use Rattle.std.specs.Prelude.{slice_get}
 use Rattle.std.proofs.lemmas.List.{drop_all, length-map}
 use Rattle.hm_base.specs.Slots.{Slots}
@@ -18,7 +18,7 @@ use Rattle.hm_refusal_laws.specs.Slotting.{slot_happens, slot_step}
 use Rattle.hm_world.specs.declared.event.Event.{Event}
 use Rattle.hm_world.specs.Setups.{event_of}
 use Rattle.hm_world.specs.declared.state.State.TheInside.{Inside}
-use Rattle.hm_world.specs.Slotted.{fills}
+use Rattle.hm_world.specs.Slotted.{finds_full}
 use Rattle.hm_world.specs.StateFields.{Parts, parts_of, slotted_of, switches_of, SlotsFollow}
 
 -- switches that stay number no write
@@ -54,14 +54,14 @@ take_quietly old new e known is many switches same =
     subst (λ (v : Event). slotted_of new ≡ slot_step (slotted_of old) (event_of v)) (sym is) (reached_quietly old new (slot_happens (slotted_of old) (event_of known)).world many switches same)
 
 -- the first switch finds its slots full as the rules say
-pub fills_first : (w : Inside) (b : Body) → finds_full_in (slotted_of (parts_of w)) 1 b ≡ fills w.switch b
-fills_first w (body.Write write) = refl
-fills_first w other = refl
+pub full_at_first : (w : Inside) (b : Body) → finds_full_in (slotted_of (parts_of w)) 1 b ≡ finds_full w.switch b
+full_at_first w (body.Write write) = refl
+full_at_first w other = refl
 
 -- the cursor is nothing to the slots
-fills_passed : (p : Parts) (number : ℕ) (b : Body) → finds_full_in (slotted_of (record p { world = passed p.world })) number b ≡ finds_full_in (slotted_of p) number b
-fills_passed p number (body.Write write) = refl
-fills_passed p number other = refl
+full_once_passed : (p : Parts) (number : ℕ) (b : Body) → finds_full_in (slotted_of (record p { world = passed p.world })) number b ≡ finds_full_in (slotted_of p) number b
+full_once_passed p number (body.Write write) = refl
+full_once_passed p number other = refl
 
 -- the packet at the cursor arrives once the cursor has passed it
 pub arrives_next : {A : Type 0} (F : Happened → A) (x : A) (old mid : Parts) (m : Message) → mid ≡ record old { world = passed old.world } → Some m ≡ slice_get old.world.net old.world.cursor
@@ -70,5 +70,5 @@ pub arrives_next : {A : Type 0} (F : Happened → A) (x : A) (old mid : Parts) (
 arrives_next F x old mid m passes here is =
     is
     ∙ ap (λ (p : Parts). F (to_node (finds_full_in (slotted_of p) (number m.dst) m.body) p.world m m.dst)) passes
-    ∙ ap (λ (b : Bool). F (to_node b (passed old.world) m m.dst)) (fills_passed old (number m.dst) m.body)
+    ∙ ap (λ (b : Bool). F (to_node b (passed old.world) m m.dst)) (full_once_passed old (number m.dst) m.body)
     ∙ ap (λ (o : Option Message). F (next (finds_full_with (slotted_of old) o) old.world o)) here

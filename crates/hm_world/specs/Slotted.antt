@@ -13,9 +13,9 @@ pub record Seen : Type 0 where
   pub table : Table
 
 -- the slots are full for the write that is brought
-abbrev pub fills : Seen → Body → Bool
-fills seen (body.Write write) = is_full (slots_of seen.table) seen.switch.point write.object
-fills seen other = false
+abbrev pub finds_full : Seen → Body → Bool
+finds_full seen (body.Write write) = is_full (slots_of seen.table) seen.switch.point write.object
+finds_full seen other = false
 
 -- the object of the write that a packet carries on with its number
 abbrev pub put_in : Body → List ℕ

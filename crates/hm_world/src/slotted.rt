@@ -4,7 +4,7 @@ ghost use Rattle.hm_rules.specs.Switch as rule;
 ghost use Rattle.hm_dirtyset.specs.Table.{slots_of};
 ghost use Rattle.hm_switch.specs.Faults.{switch_fault};
 ghost use Rattle.hm_switch.specs.StandsFor.{slots_then};
-ghost use Rattle.hm_world.specs.Slotted.{fills, put_objects};
+ghost use Rattle.hm_world.specs.Slotted.{finds_full, put_objects};
 
 use hm_base::memory::NoMemory;
 use hm_packet::body::Body;
@@ -61,8 +61,8 @@ impl SlottedSwitch {
     /// One packet at the switch, which refuses a write exactly where its slots are full for the object.
     pub fn step(&mut self, packet: &Packet) -> Turn
         requires { self.old.switch.handled < 16384 }
-        ensures switch { self.new.switch ≡ (rule.switch_step (fills self.old packet.now.body) self.old.switch packet.now).switch }
-        ensures turn { result ≡ (rule.switch_step (fills self.old packet.now.body) self.old.switch packet.now).turn }
+        ensures switch { self.new.switch ≡ (rule.switch_step (finds_full self.old packet.now.body) self.old.switch packet.now).switch }
+        ensures turn { result ≡ (rule.switch_step (finds_full self.old packet.now.body) self.old.switch packet.now).turn }
         ensures slots { slots_of self.new.table ≡ slots_then (slots_of self.old.table) self.old.switch self.new.switch }
     {
         let turn = self.switch.step(packet);

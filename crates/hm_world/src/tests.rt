@@ -35,10 +35,10 @@ const RESEND: Event = Event::Resend {
     switch: 1,
 };
 
-fn write() -> Result<Event, Fail> {
+fn write(client: u32, object: u32) -> Result<Event, Fail> {
     Ok(Event::Write {
-        client: 7,
-        object: 5,
+        client,
+        object,
         value: Value::from_slice(b"a").ok_or("a value")?,
         switch: 1,
     })
@@ -56,7 +56,7 @@ fn last_sent(alloc: Global, world: &World) -> Result<Vec<u8>, Fail> {
 fn a_resent_write_is_completed_again(rt: HostRuntime) -> Result<(), Fail> {
     let alloc = rt.alloc();
     let mut world = World::open(alloc, &ONE)?;
-    let invoked = world.event(&write()?)?;
+    let invoked = world.event(&write(7, 5)?)?;
     assert_eq!(rt; invoked, Outcome::Ok { first: 1, count: 1 });
     world.event(&RESEND)?;
     for packet in 1..4u32 {
@@ -79,7 +79,7 @@ fn a_removed_tail_hands_on_to_the_one_before_it(rt: HostRuntime) -> Result<(), F
     let mut setup = ONE;
     setup.size = 3;
     let mut world = World::open(alloc, &setup)?;
-    world.event(&write()?)?;
+    world.event(&write(7, 5)?)?;
     for _ in 0..3u32 {
         world.event(&Event::Next)?;
     }
@@ -113,6 +113,41 @@ fn bars_come_in_order(rt: HostRuntime) -> Result<(), Fail> {
     world.event(&READ)?;
     world.event(&Event::Next)?;
     assert_eq!(rt; world.event(&Event::Next)?, Outcome::Ignored(Why::Gone));
+    Ok(())
+}
+
+#[test]
+fn a_full_table_refuses_writes_until_one_is_completed(rt: HostRuntime) -> Result<(), Fail> {
+    let alloc = rt.alloc();
+    let mut setup = ONE;
+    setup.stages = 1;
+    setup.bits = 0;
+    let mut world = World::open(alloc, &setup)?;
+    world.event(&write(7, 5)?)?;
+    world.event(&write(8, 6)?)?;
+    world.event(&Event::Next)?;
+    assert_eq!(rt; world.event(&Event::Next)?, Outcome::Full);
+    for _ in 0..2u32 {
+        world.event(&Event::Next)?;
+    }
+    world.event(&write(9, 6)?)?;
+    for _ in 0..2u32 {
+        world.event(&Event::Next)?;
+    }
+    let text = last_sent(alloc, &world)?;
+    assert_eq!(rt; text.as_slice(), b"s1 r0 put 1.2 9 1 6 61".as_slice());
+    Ok(())
+}
+
+#[test]
+fn a_switch_is_spent_at_the_end_of_its_life(rt: HostRuntime) -> Result<(), Fail> {
+    let mut setup = ONE;
+    setup.life = 1;
+    let mut world = World::open(rt.alloc(), &setup)?;
+    world.event(&READ)?;
+    world.event(&write(7, 5)?)?;
+    world.event(&Event::Next)?;
+    assert_eq!(rt; world.event(&Event::Next)?, Outcome::Spent);
     Ok(())
 }
 

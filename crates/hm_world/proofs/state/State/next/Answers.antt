@@ -1,4 +1,4 @@
-use Rattle.std.proofs.Common.{Some, sym, ap, ◌∙◌, List}
+use Rattle.std.proofs.Common.{sym, ap, ◌∙◌, List}
 use Rattle.std.specs.Prelude.{slice_get}
 use Rattle.hm_packet.specs.declared.outcome.Outcome.{Outcome}
 use Rattle.hm_packet.specs.Messages.{Message}
