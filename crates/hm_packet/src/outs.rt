@@ -38,6 +38,13 @@ impl Outs {
         }
     }
 
+    /// Forgets all packets.
+    pub fn clear(&mut self)
+        ensures { self.new ≡ [] }
+    {
+        self.list.clear();
+    }
+
     /// Puts a packet behind the others. Refused exactly where the list is full; then nothing changes.
     pub fn try_push(&mut self, packet: Packet) -> Result<(), ListFull>
         ensures room { IsOk result ↔ (length self.old < max_outs) }

@@ -34,21 +34,21 @@ pub(crate) fn open_replicas(
 }
 
 /// The replica of a number handles a packet.
-pub(crate) fn step_at(replicas: &mut Vec<Chain>, number: u8, packet: &Packet) -> Acted
+pub(crate) fn step_at(replicas: &mut Vec<Chain>, number: u8, packet: &Packet, acted: &mut Acted)
     requires { number < length replicas.old.items }
-    ensures few { length result.outs ≤ max_outs }
-    ensures step { (r : Replica) → slice_get replicas.old.items number ≡ Some r → IsStepAt replicas.old.items replicas.new.items number result (chain_step r packet.now) }
+    ensures few { length acted.new.outs ≤ max_outs }
+    ensures step { (r : Replica) → slice_get replicas.old.items number ≡ Some r → IsStepAt replicas.old.items replicas.new.items number acted.new (chain_step r packet.now) }
 {
-    replicas[number as usize].step(packet)
+    replicas[number as usize].step(packet, acted);
 }
 
 /// The replica of a number does what it does from time to time.
-pub(crate) fn tick_at(replicas: &mut Vec<Chain>, number: u8) -> Acted
+pub(crate) fn tick_at(replicas: &mut Vec<Chain>, number: u8, acted: &mut Acted)
     requires { number < length replicas.old.items }
-    ensures few { length result.outs ≤ max_outs }
-    ensures step { (r : Replica) → slice_get replicas.old.items number ≡ Some r → IsStepAt replicas.old.items replicas.new.items number result (chain_tick r) }
+    ensures few { length acted.new.outs ≤ max_outs }
+    ensures step { (r : Replica) → slice_get replicas.old.items number ≡ Some r → IsStepAt replicas.old.items replicas.new.items number acted.new (chain_tick r) }
 {
-    replicas[number as usize].tick()
+    replicas[number as usize].tick(acted);
 }
 
 /// The log of the replica of a number.

@@ -103,7 +103,7 @@ impl State {
     }
 
     /// One event, with its bars in order.
-    pub(crate) fn event(&mut self, event: &Event) -> Result<Outcome, NoMemory>
+    pub(crate) fn event(&mut self, event: &Event, acted: &mut Acted) -> Result<Outcome, NoMemory>
         requires few { self.old.events < max_events }
         requires ready { IsReady self.old.world }
         ensures world { OnOk result (self.new.world ≡ (rules.happens self.old.world (event_of event.now) false).world) }
@@ -133,10 +133,10 @@ impl State {
                 switch,
             } => self.invoke(*client, Want::Read { object: *object }, *switch),
             Event::Resend { client, switch } => self.resend(*client, *switch),
-            Event::Deliver { packet } => self.deliver_again(*packet),
-            Event::Next => self.next(),
+            Event::Deliver { packet } => self.deliver_again(*packet, acted),
+            Event::Next => self.next(acted),
             Event::Drop => self.lose_next(),
-            Event::Tick { replica } => self.tick(*replica),
+            Event::Tick { replica } => self.tick(*replica, acted),
             Event::Stop { replica } => self.stop(*replica),
             Event::Remove { replica } => self.remove(*replica),
         })
@@ -257,7 +257,7 @@ impl State {
     }
 
     /// The packet of this number arrives, whether or not it did before.
-    fn deliver_again(&mut self, number: u32) -> Outcome
+    fn deliver_again(&mut self, number: u32, acted: &mut Acted) -> Outcome
         requires { IsBegun self.old }
         ensures world { self.new.world ≡ (arrival.deliver false self.old.world (rule.sent_at self.old.world number)).world }
         ensures outcome { result ≡ (arrival.deliver false self.old.world (rule.sent_at self.old.world number)).outcome }
@@ -265,12 +265,12 @@ impl State {
     {
         match self.sent(number) {
             None => Outcome::NotAllowed(Bar::NoPacket),
-            Some(packet) => self.deliver(&packet),
+            Some(packet) => self.deliver(&packet, acted),
         }
     }
 
     /// The packet at the cursor arrives, if there is one.
-    fn next(&mut self) -> Outcome
+    fn next(&mut self, acted: &mut Acted) -> Outcome
         requires { IsBegun self.old }
         ensures world { self.new.world ≡ (rules.next false self.old.world (slice_get self.old.world.net self.old.world.cursor)).world }
         ensures outcome { result ≡ (rules.next false self.old.world (slice_get self.old.world.net self.old.world.cursor)).outcome }
@@ -280,7 +280,7 @@ impl State {
             None => Outcome::NotAllowed(Bar::NoPacket),
             Some(packet) => {
                 self.pass();
-                self.deliver(&packet)
+                self.deliver(&packet, acted)
             }
         }
     }
@@ -320,7 +320,7 @@ impl State {
     }
 
     /// A packet arrives at the node that it is addressed to.
-    fn deliver(&mut self, packet: &Packet) -> Outcome
+    fn deliver(&mut self, packet: &Packet, acted: &mut Acted) -> Outcome
         requires { IsBegun self.old }
         ensures world { self.new.world ≡ (arrival.to_node false self.old.world packet.now packet.now.dst).world }
         ensures outcome { result ≡ (arrival.to_node false self.old.world packet.now packet.now.dst).outcome }
@@ -329,7 +329,7 @@ impl State {
         match packet.dst {
             Node::Client(number) => self.to_client(number, &packet.body),
             Node::Switch(number) => self.to_switch(number, packet),
-            Node::Replica(number) => self.to_replica(number, packet),
+            Node::Replica(number) => self.to_replica(number, packet, acted),
             Node::Config => self.to_service(packet),
         }
     }
@@ -462,7 +462,7 @@ impl State {
     }
 
     /// A packet arrives at a replica.
-    fn to_replica(&mut self, number: u8, packet: &Packet) -> Outcome
+    fn to_replica(&mut self, number: u8, packet: &Packet, acted: &mut Acted) -> Outcome
         requires { IsBegun self.old }
         ensures world { self.new.world ≡ (arrival.to_replica self.old.world packet.now number (slice_get self.old.world.replicas number)).world }
         ensures outcome { result ≡ (arrival.to_replica self.old.world packet.now number (slice_get self.old.world.replicas number)).outcome }
@@ -471,12 +471,12 @@ impl State {
         if self.bar_at(number).is_some() {
             return Outcome::Ignored(Why::Gone);
         }
-        let acted = self.step_replica(number, packet);
-        self.settle(number, &acted)
+        self.step_replica(number, packet, acted);
+        self.settle(number, acted)
     }
 
     /// A replica's clock ticks.
-    fn tick(&mut self, number: u8) -> Outcome
+    fn tick(&mut self, number: u8, acted: &mut Acted) -> Outcome
         requires { IsBegun self.old }
         ensures world { self.new.world ≡ (rules.happens self.old.world (event_of (Event.Tick number)) false).world }
         ensures outcome { result ≡ (rules.happens self.old.world (event_of (Event.Tick number)) false).outcome }
@@ -485,8 +485,8 @@ impl State {
         if let Some(bar) = self.bar_at(number) {
             return Outcome::NotAllowed(bar);
         }
-        let acted = self.tick_replica(number);
-        self.settle(number, &acted)
+        self.tick_replica(number, acted);
+        self.settle(number, acted)
     }
 
     /// A replica stops for good.
@@ -534,31 +534,31 @@ impl State {
     }
 
     /// A replica handles a packet.
-    fn step_replica(&mut self, number: u8, packet: &Packet) -> Acted
+    fn step_replica(&mut self, number: u8, packet: &Packet, acted: &mut Acted)
         requires there { number < length self.old.world.replicas }
         requires front { IsFront self.old.world number }
         ensures rooms { SameRooms self.old self.new }
-        ensures few { length result.outs ≤ max_outs }
-        ensures step { (r : Replica) → slice_get self.old.world.replicas number ≡ Some r → IsStep self.old self.new number result (chain_step r packet.now) }
+        ensures few { length acted.new.outs ≤ max_outs }
+        ensures step { (r : Replica) → slice_get self.old.world.replicas number ≡ Some r → IsStep self.old self.new number acted.new (chain_step r packet.now) }
         ensures count { length self.new.world.replicas ≡ length self.old.world.replicas }
         ensures front { IsFront self.new.world number }
     {
         chain_log_grows();
-        step_at(&mut self.replicas, number, packet)
+        step_at(&mut self.replicas, number, packet, acted);
     }
 
     /// A replica does what it does from time to time.
-    fn tick_replica(&mut self, number: u8) -> Acted
+    fn tick_replica(&mut self, number: u8, acted: &mut Acted)
         requires there { number < length self.old.world.replicas }
         requires front { IsFront self.old.world number }
         ensures rooms { SameRooms self.old self.new }
-        ensures few { length result.outs ≤ max_outs }
-        ensures step { (r : Replica) → slice_get self.old.world.replicas number ≡ Some r → IsStep self.old self.new number result (chain_tick r) }
+        ensures few { length acted.new.outs ≤ max_outs }
+        ensures step { (r : Replica) → slice_get self.old.world.replicas number ≡ Some r → IsStep self.old self.new number acted.new (chain_tick r) }
         ensures count { length self.new.world.replicas ≡ length self.old.world.replicas }
         ensures front { IsFront self.new.world number }
     {
         chain_log_grows();
-        tick_at(&mut self.replicas, number)
+        tick_at(&mut self.replicas, number, acted);
     }
 
     /// What a replica's step gave: what it declared joins the declared list, and what it sent the net.

@@ -9,8 +9,10 @@ use crate::state::State;
 use hm_base::memory::NoMemory;
 use hm_chain_laws::chain::{chain_stays_sound, sound_world_keeps_declared};
 use hm_order::history::History;
+use hm_packet::acted::Acted;
 use hm_packet::outcome::Outcome;
 use hm_packet::packet::Packet;
+use hm_replica::acts::blank;
 use std::alloc::Global;
 use std::marker::Model;
 
@@ -19,6 +21,7 @@ use std::marker::Model;
 #[derive(Drop)]
 pub struct World {
     state: State,
+    acted: Acted,
 }
 
 impl Model for World {
@@ -45,6 +48,7 @@ impl World {
         chain_stays_sound();
         Ok(World {
             state: State::open(alloc, setup)?,
+            acted: blank(),
         })
     }
 
@@ -59,7 +63,7 @@ impl World {
     {
         chain_stays_sound();
         sound_world_keeps_declared();
-        self.state.event(event)
+        self.state.event(event, &mut self.acted)
     }
 
     /// How many events were answered since opening, otherwise than by want of memory.

@@ -35,7 +35,7 @@ invariant_of-self c =
 pub returns-clause-step : goal.returns-clause-step
 returns-clause-step c =
     let w = c.self.inside in
-    subst (λ (x : Parts). (r : Replica) → slice_get x.world.replicas c.args.number ≡ Some r → IsStep x (record (parts_of w) { world = record (world_of w) { replicas = c.step_at.new.replicas.items } }) c.args.number c.step_at.result (chain_step r c.args.packet.now)) c.self.view_is
+    subst (λ (x : Parts). (r : Replica) → slice_get x.world.replicas c.args.number ≡ Some r → IsStep x (record (parts_of w) { world = record (world_of w) { replicas = c.step_at.new.replicas.items } }) c.args.number c.step_at.new.acted (chain_step r c.args.packet.now)) c.self.view_is
     (λ r here.
     let s = c.step_at.ensures.step r here in
     record { same = ap (λ (rs : List Replica). record (parts_of w) { world = record (world_of w) { replicas = rs } }) s.replicas; gives = s.gives })
