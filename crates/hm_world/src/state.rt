@@ -538,7 +538,6 @@ impl State {
         requires there { number < length self.old.world.replicas }
         requires front { IsFront self.old.world number }
         ensures rooms { SameRooms self.old self.new }
-        ensures few { length acted.new.outs ≤ max_outs }
         ensures step { (r : Replica) → slice_get self.old.world.replicas number ≡ Some r → IsStep self.old self.new number acted.new (chain_step r packet.now) }
         ensures count { length self.new.world.replicas ≡ length self.old.world.replicas }
         ensures front { IsFront self.new.world number }
@@ -552,7 +551,6 @@ impl State {
         requires there { number < length self.old.world.replicas }
         requires front { IsFront self.old.world number }
         ensures rooms { SameRooms self.old self.new }
-        ensures few { length acted.new.outs ≤ max_outs }
         ensures step { (r : Replica) → slice_get self.old.world.replicas number ≡ Some r → IsStep self.old self.new number acted.new (chain_tick r) }
         ensures count { length self.new.world.replicas ≡ length self.old.world.replicas }
         ensures front { IsFront self.new.world number }
@@ -563,7 +561,6 @@ impl State {
 
     /// What a replica's step gave: what it declared joins the declared list, and what it sent the net.
     fn settle(&mut self, number: u8, acted: &Acted) -> Outcome
-        requires few { length acted.now.outs ≤ max_outs }
         requires marks { self.old.world.setup.cap ≤ self.old.mark_room }
         requires room { max_outs ≤ self.old.net_room }
         requires net { length self.old.world.net + max_outs ≤ max_outs * self.old.events }
@@ -576,12 +573,10 @@ impl State {
         let first = self.sent_count() + 1;
         match acted.did {
             Did::Done => {
+                let count = acted.outs.len();
                 self.declare(number, acted.declared.to);
                 self.post_all(&acted.outs);
-                Outcome::Ok {
-                    first,
-                    count: acted.outs.len(),
-                }
+                Outcome::Ok { first, count }
             }
             Did::Ignored(why) => Outcome::Ignored(why),
             Did::LogFull => Outcome::LogFull,
