@@ -5,7 +5,7 @@ ghost use Rattle.hm_rules.specs.Chain as rules;
 ghost use Rattle.hm_rules.specs.Replica.{opened};
 ghost use Rattle.hm_rules.specs.ReplicaSteps as steps;
 ghost use Rattle.hm_replica.specs.Given.{Gives};
-ghost use Rattle.hm_replica.specs.Steps.{step_of};
+ghost use Rattle.hm_replica.specs.Steps.{step_of, sends_act};
 ghost use Rattle.hm_store.specs.Log.{max_log_len};
 
 use crate::neighbours::{numbered, predecessor, successor};
@@ -17,13 +17,13 @@ use hm_base::verdict::{Admit, Verdict};
 use hm_base::why::Why;
 use hm_feed::follower::{Took, take};
 use hm_feed::sender::Sender;
-use hm_packet::acted::{Acted, Declared, Did};
+use hm_packet::acted::{Acted, Declared};
 use hm_packet::body::{
     Ask, Body, Config, FastRead, Feed, FeedAck, NormalRead, Put, Refuse, Refused,
 };
 use hm_packet::outs::Outs;
 use hm_packet::packet::Packet;
-use hm_replica::acts::{ignored, log_full, one, push, sends, sends_one};
+use hm_replica::acts::{ignore, log_full, push, send_none, send_one};
 use hm_replica::answers::push_answers;
 use hm_replica::group::{first_member, is_member, last_member};
 use hm_replica::packets::{done_packet, entry_of, packet_from, reply_packet};
@@ -84,319 +84,318 @@ impl Chain {
     }
 
     /// What the member makes of a packet, by the rules of a chain.
-    pub fn step(&mut self, packet: &Packet) -> Acted
-        ensures { Gives self.new result (rules.chain_step self.old packet.now) }
+    pub fn step(&mut self, packet: &Packet, acted: &mut Acted)
+        ensures { Gives self.new acted.new (rules.chain_step self.old packet.now) }
     {
         match refusal(self.me, takes(&packet.body), packet) {
-            Some(why) => ignored(why),
-            None => self.row(number(packet.src), &packet.body),
+            Some(why) => ignore(acted, why),
+            None => self.row(number(packet.src), &packet.body, acted),
         }
     }
 
     /// The tail completes its last entry again; another member passes on what its successor hasn't acknowledged.
-    pub fn tick(&mut self) -> Acted
-        ensures { Gives self.new result (rules.chain_tick self.old) }
+    pub fn tick(&mut self, acted: &mut Acted)
+        ensures { Gives self.new acted.new (rules.chain_tick self.old) }
     {
         if self.is_tail() {
-            self.complete_last()
+            self.complete_last(acted);
         } else {
-            self.pass_on_rest()
+            self.pass_on_rest(acted);
         }
     }
 
     /// What the member makes of what a packet says, whose sender has this number.
-    fn row(&mut self, from: u32, body: &Body) -> Acted
-        ensures { step_of self.new result ≡ rules.chain_row self.old from body.now }
+    fn row(&mut self, from: u32, body: &Body, acted: &mut Acted)
+        ensures { step_of self.new acted.new ≡ rules.chain_row self.old from body.now }
     {
         match body {
-            Body::Put(put) => self.on_put(put),
-            Body::FastRead(read) => self.on_fast_read(read),
-            Body::NormalRead(read) => self.on_normal_read(read),
-            Body::Feed(feed) => self.on_feed(from, feed),
-            Body::FeedAck(ack) => self.on_feed_ack(from, ack),
-            Body::Ask(ask) => self.on_ask(from, ask),
-            Body::Config(config) => self.on_config(config),
-            Body::Refuse(refuse) => self.on_refuse(refuse),
-            _ => ignored(Why::Kind),
+            Body::Put(put) => self.on_put(put, acted),
+            Body::FastRead(read) => self.on_fast_read(read, acted),
+            Body::NormalRead(read) => self.on_normal_read(read, acted),
+            Body::Feed(feed) => self.on_feed(from, feed, acted),
+            Body::FeedAck(ack) => self.on_feed_ack(from, ack, acted),
+            Body::Ask(ask) => self.on_ask(from, ask, acted),
+            Body::Config(config) => self.on_config(config, acted),
+            Body::Refuse(refuse) => self.on_refuse(refuse, acted),
+            _ => ignore(acted, Why::Kind),
         }
     }
 
     /// A numbered write, at the head.
-    fn on_put(&mut self, put: &Put) -> Acted
-        ensures { step_of self.new result ≡ rules.chain_put self.old put.now }
+    fn on_put(&mut self, put: &Put, acted: &mut Acted)
+        ensures { step_of self.new acted.new ≡ rules.chain_put self.old put.now }
     {
         if !self.is_head() {
-            return ignored(Why::Status);
+            return ignore(acted, Why::Status);
         }
         match self.shim.admit(put) {
-            Admit::Drop(why) => ignored(why),
-            Admit::Again { index } => self.answer_again(index),
-            Admit::Take => self.append(put),
+            Admit::Drop(why) => ignore(acted, why),
+            Admit::Again { index } => self.answer_again(index, acted),
+            Admit::Take => self.append(put, acted),
         }
     }
 
     /// Puts an admitted write behind the log, and passes it on.
-    fn append(&mut self, put: &Put) -> Acted
-        ensures { step_of self.new result ≡ steps.appends rules.chain_grew self.old (steps.entry_of put.now) }
+    fn append(&mut self, put: &Put, acted: &mut Acted)
+        ensures { step_of self.new acted.new ≡ steps.appends rules.chain_grew self.old (steps.entry_of put.now) }
     {
         match self.shim.append(entry_of(put)) {
-            Ok(()) => self.grew(Outs::new()),
-            Err(_full) => log_full(),
+            Ok(()) => {
+                send_none(acted);
+                self.grew(acted);
+            }
+            Err(_full) => log_full(acted),
         }
     }
 
     /// A write that the log has already: the tail completes it again, another head asks the tail to.
-    fn answer_again(&self, index: u32) -> Acted
-        ensures { step_of self.now result ≡ steps.answers_again rules.chain_again self.now index (slice_get self.now.log index) }
+    fn answer_again(&self, index: u32, acted: &mut Acted)
+        ensures { step_of self.now acted.new ≡ steps.answers_again rules.chain_again self.now index (slice_get self.now.log index) }
     {
         match self.shim.log().entry(index) {
-            Some(entry) => self.write_again(&entry, index),
-            None => ignored(Why::Repeat),
+            Some(entry) => self.write_again(&entry, index, acted),
+            None => ignore(acted, Why::Repeat),
         }
     }
 
     /// A stamped read: answered where the read-ahead test holds, else a normal read at the tail.
-    fn on_fast_read(&self, read: &FastRead) -> Acted
-        ensures { step_of self.now result ≡ rules.chain_fast_read self.now read.now }
+    fn on_fast_read(&self, read: &FastRead, acted: &mut Acted)
+        ensures { step_of self.now acted.new ≡ rules.chain_fast_read self.now read.now }
     {
         match self.shim.read_ahead(read) {
-            Local::Answer(reply) => sends_one(reply_packet(self.me, read.client, reply)),
-            Local::Pass => self.read_at_tail(&NormalRead {
-                client: read.client,
-                request: read.request,
-                object: read.object,
-            }),
+            Local::Answer(reply) => send_one(acted, reply_packet(self.me, read.client, reply)),
+            Local::Pass => {
+                let normal = NormalRead {
+                    client: read.client,
+                    request: read.request,
+                    object: read.object,
+                };
+                self.read_at_tail(&normal, acted);
+            }
         }
     }
 
     /// A read at the tail, which answers from its log: all of it is committed.
-    fn on_normal_read(&self, read: &NormalRead) -> Acted
-        ensures { step_of self.now result ≡ rules.chain_normal_read self.now read.now }
+    fn on_normal_read(&self, read: &NormalRead, acted: &mut Acted)
+        ensures { step_of self.now acted.new ≡ rules.chain_normal_read self.now read.now }
     {
         if !self.is_tail() {
-            return ignored(Why::Status);
+            return ignore(acted, Why::Status);
         }
         let found = self.shim.log().latest(read.object);
-        sends_one(reply_packet(self.me, read.client, reply_to(read.request, found)))
+        let reply = reply_to(read.request, found);
+        send_one(acted, reply_packet(self.me, read.client, reply));
     }
 
     /// A page, from the predecessor.
-    fn on_feed(&mut self, from: u32, feed: &Feed) -> Acted
-        ensures { step_of self.new result ≡ rules.chain_feed self.old from feed.now }
+    fn on_feed(&mut self, from: u32, feed: &Feed, acted: &mut Acted)
+        ensures { step_of self.new acted.new ≡ rules.chain_feed self.old from feed.now }
     {
         if feed.view != self.view() {
-            return ignored(Why::Epoch);
+            return ignore(acted, Why::Epoch);
         }
         match numbered(self.predecessor(), from) {
-            Some(before) => self.take_in(before, feed),
-            None => ignored(Why::Foreign),
+            Some(before) => self.take_in(before, feed, acted),
+            None => ignore(acted, Why::Foreign),
         }
     }
 
     /// An acknowledgement, from the successor.
-    fn on_feed_ack(&mut self, from: u32, ack: &FeedAck) -> Acted
-        ensures { step_of self.new result ≡ rules.chain_feed_ack self.old from ack.now }
+    fn on_feed_ack(&mut self, from: u32, ack: &FeedAck, acted: &mut Acted)
+        ensures { step_of self.new acted.new ≡ rules.chain_feed_ack self.old from ack.now }
     {
         if ack.view != self.view() {
-            return ignored(Why::Epoch);
+            return ignore(acted, Why::Epoch);
         }
         match numbered(self.successor(), from) {
-            Some(behind) => self.note(behind, ack.len),
-            None => ignored(Why::Foreign),
+            Some(behind) => self.note(behind, ack.len, acted),
+            None => ignore(acted, Why::Foreign),
         }
     }
 
     /// The head asks the tail to complete a write again.
-    fn on_ask(&self, from: u32, ask: &Ask) -> Acted
-        ensures { step_of self.now result ≡ rules.chain_ask self.now from ask.now }
+    fn on_ask(&self, from: u32, ask: &Ask, acted: &mut Acted)
+        ensures { step_of self.now acted.new ≡ rules.chain_ask self.now from ask.now }
     {
         if ask.view != self.view() {
-            return ignored(Why::Epoch);
+            return ignore(acted, Why::Epoch);
         }
         if !self.is_tail() {
-            return ignored(Why::Status);
+            return ignore(acted, Why::Status);
         }
         if u32::from(first_member(&self.members)) != from {
-            return ignored(Why::Foreign);
+            return ignore(acted, Why::Foreign);
         }
         match self.shim.judge(ask.client, ask.request) {
-            Verdict::Old => ignored(Why::Repeat),
-            Verdict::New => ignored(Why::Gap),
-            Verdict::Again { index } => self.complete(index),
+            Verdict::Old => ignore(acted, Why::Repeat),
+            Verdict::New => ignore(acted, Why::Gap),
+            Verdict::Again { index } => self.complete(index, acted),
         }
     }
 
     /// The members of a later epoch, in which nothing is acknowledged yet.
-    fn on_config(&mut self, config: &Config) -> Acted
-        ensures { step_of self.new result ≡ rules.chain_config self.old config.now }
+    fn on_config(&mut self, config: &Config, acted: &mut Acted)
+        ensures { step_of self.new acted.new ≡ rules.chain_config self.old config.now }
     {
         if config.view <= self.view() {
-            return ignored(Why::Epoch);
+            return ignore(acted, Why::Epoch);
         }
         if !is_member(&config.members, self.me) {
-            return ignored(Why::Foreign);
+            return ignore(acted, Why::Foreign);
         }
         let was_tail = self.is_tail();
         self.members = config.members.copy();
         self.sender = Sender::open(config.view, 0);
-        self.configured(was_tail)
+        self.configured(was_tail, acted);
     }
 
     /// Nothing more is taken of a switch and of those before it.
-    fn on_refuse(&mut self, refuse: &Refuse) -> Acted
-        ensures { step_of self.new result ≡ steps.on_refuse self.old refuse.now }
+    fn on_refuse(&mut self, refuse: &Refuse, acted: &mut Acted)
+        ensures { step_of self.new acted.new ≡ steps.on_refuse self.old refuse.now }
     {
         if refuse.switch == u32::MAX {
-            return ignored(Why::Foreign);
+            return ignore(acted, Why::Foreign);
         }
         let _ = self.shim.refuse(refuse.switch);
-        let refused = Refused {
+        let refused = Body::Refused(Refused {
             switch: refuse.switch,
-        };
-        sends_one(packet_from(self.me, Node::Config, Body::Refused(refused)))
+        });
+        send_one(acted, packet_from(self.me, Node::Config, refused));
     }
 
     /// A write that the log has at this index: the tail completes it again, another head asks the tail to.
-    fn write_again(&self, entry: &Entry, index: u32) -> Acted
-        ensures { step_of self.now result ≡ steps.answers_again rules.chain_again self.now index (Some entry.now) }
+    fn write_again(&self, entry: &Entry, index: u32, acted: &mut Acted)
+        ensures { step_of self.now acted.new ≡ steps.answers_again rules.chain_again self.now index (Some entry.now) }
     {
         if !entry.is_write() {
-            return ignored(Why::Repeat);
+            return ignore(acted, Why::Repeat);
         }
         if self.is_tail() {
-            return sends_one(done_packet(self.me, self.shim.accepted(), entry));
+            return send_one(acted, done_packet(self.me, self.shim.accepted(), entry));
         }
-        let ask = Ask {
+        let ask = Body::Ask(Ask {
             view: self.view(),
             client: entry.client,
             request: entry.request,
-        };
+        });
         let tail = last_member(&self.members);
-        sends_one(packet_from(self.me, Node::Replica(tail), Body::Ask(ask)))
+        send_one(acted, packet_from(self.me, Node::Replica(tail), ask));
     }
 
     /// A normal read, here at the tail, else passed on to it.
-    fn read_at_tail(&self, read: &NormalRead) -> Acted
-        ensures { step_of self.now result ≡ parts.read_at_tail self.now read.now }
+    fn read_at_tail(&self, read: &NormalRead, acted: &mut Acted)
+        ensures { step_of self.now acted.new ≡ parts.read_at_tail self.now read.now }
     {
         if self.is_tail() {
-            return self.on_normal_read(read);
+            return self.on_normal_read(read, acted);
         }
-        let tail = last_member(&self.members);
-        sends_one(packet_from(self.me, Node::Replica(tail), Body::NormalRead(*read)))
+        let tail = Node::Replica(last_member(&self.members));
+        send_one(acted, packet_from(self.me, tail, Body::NormalRead(*read)));
     }
 
     /// Takes a page in and acknowledges it. New entries go on.
-    fn take_in(&mut self, from: u8, feed: &Feed) -> Acted
+    fn take_in(&mut self, from: u8, feed: &Feed, acted: &mut Acted)
         requires { from ≤ 6 }
-        ensures { step_of self.new result ≡ parts.taken_in self.old from feed.now }
+        ensures { step_of self.new acted.new ≡ parts.taken_in self.old from feed.now }
     {
         match take(&mut self.shim, feed) {
-            Took::Gap => ignored(Why::Gap),
-            Took::LogFull => log_full(),
+            Took::Gap => ignore(acted, Why::Gap),
+            Took::LogFull => log_full(acted),
             Took::Grown(_) => {
-                let ack = self.ack_to(from);
-                self.grew(one(ack))
+                send_one(acted, self.ack_to(from));
+                self.grew(acted);
             }
-            Took::Same(_) | Took::Staged(_) | Took::Adopted(_) => sends_one(self.ack_to(from)),
+            Took::Same(_) | Took::Staged(_) | Took::Adopted(_) => {
+                send_one(acted, self.ack_to(from));
+            }
         }
     }
 
     /// Notes what the successor acknowledged, and sends it what it lacks.
-    fn note(&mut self, behind: u8, len: u32) -> Acted
+    fn note(&mut self, behind: u8, len: u32, acted: &mut Acted)
         requires { behind ≤ 6 }
-        ensures { step_of self.new result ≡ parts.noted self.old behind len }
+        ensures { step_of self.new acted.new ≡ parts.noted self.old behind len }
     {
         if len > self.shim.log().len() {
-            return ignored(Why::Foreign);
+            return ignore(acted, Why::Foreign);
         }
         if !self.sender.note(behind, len) {
-            return ignored(Why::Repeat);
+            return ignore(acted, Why::Repeat);
         }
-        let mut outs = Outs::new();
+        send_none(acted);
         if len < self.shim.log().len() {
-            self.pass_on(&mut outs);
+            self.pass_on(&mut acted.outs);
         }
-        sends(outs)
     }
 
     /// A new tail declares all of its log, another member passes its log on.
-    fn configured(&mut self, was_tail: bool) -> Acted
-        ensures { step_of self.new result ≡ rules.chain_configured was_tail self.old }
+    fn configured(&mut self, was_tail: bool, acted: &mut Acted)
+        ensures { step_of self.new acted.new ≡ rules.chain_configured was_tail self.old }
     {
-        let mut outs = Outs::new();
+        send_none(acted);
         if self.is_tail() {
             if !was_tail {
-                return self.declare(outs, 0);
+                self.declare(0, acted);
             }
         } else if self.shim.log().len() != 0 {
-            self.pass_on(&mut outs);
+            self.pass_on(&mut acted.outs);
         }
-        sends(outs)
     }
 
-    /// After new entries: the tail declares them, another member passes them on, behind the packets given.
-    fn grew(&mut self, mut outs: Outs) -> Acted
-        requires { length outs + steps.max_answered ≤ max_outs }
-        ensures { step_of self.new result ≡ steps.sends_first outs (rules.chain_grew self.old) }
+    /// After new entries: the tail declares them, another member passes them on, behind the packets that it has sent.
+    fn grew(&mut self, acted: &mut Acted)
+        requires room { length acted.old.outs + steps.max_answered ≤ max_outs }
+        requires sent { acted.old ≡ sends_act acted.old.outs }
+        ensures { step_of self.new acted.new ≡ steps.sends_first acted.old.outs (rules.chain_grew self.old) }
     {
         if self.is_tail() {
             let from = self.shim.log().applied_len();
-            self.declare(outs, from)
+            self.declare(from, acted);
         } else {
-            self.pass_on(&mut outs);
-            sends(outs)
+            self.pass_on(&mut acted.outs);
         }
     }
 
-    /// Declares the log from a place on, with the answers behind the packets given.
-    fn declare(&mut self, mut outs: Outs, from: u32) -> Acted
-        requires room { length outs + steps.max_answered ≤ max_outs }
+    /// Declares the log from a place on, with the answers behind the packets that it has sent.
+    fn declare(&mut self, from: u32, acted: &mut Acted)
+        requires room { length acted.old.outs + steps.max_answered ≤ max_outs }
         requires within { from ≤ length self.old.log }
-        ensures { step_of self.new result ≡ steps.sends_first outs (steps.declares self.old from (length self.old.log)) }
+        requires sent { acted.old ≡ sends_act acted.old.outs }
+        ensures { step_of self.new acted.new ≡ steps.sends_first acted.old.outs (steps.declares self.old from (length self.old.log)) }
     {
         let to = self.shim.log().len();
         self.shim.apply_to(to);
-        push_answers(&mut outs, self.me, &self.shim, from, to);
-        Acted {
-            outs,
-            declared: Declared { from, to },
-            did: Did::Done,
-        }
+        push_answers(&mut acted.outs, self.me, &self.shim, from, to);
+        acted.declared = Declared { from, to };
     }
 
     /// Completes the entry at an index again, if there is one.
-    fn complete(&self, index: u32) -> Acted
-        ensures { step_of self.now result ≡ steps.sends self.now (steps.done_if_any self.now (slice_get self.now.log index)) }
+    fn complete(&self, index: u32, acted: &mut Acted)
+        ensures { step_of self.now acted.new ≡ steps.sends self.now (steps.done_if_any self.now (slice_get self.now.log index)) }
     {
-        let mut outs = Outs::new();
-        if let Some(entry) = self.shim.log().entry(index) {
-            push(
-                &mut outs,
-                done_packet(self.me, self.shim.accepted(), &entry),
-            );
+        match self.shim.log().entry(index) {
+            Some(entry) => send_one(acted, done_packet(self.me, self.shim.accepted(), &entry)),
+            None => send_none(acted),
         }
-        sends(outs)
     }
 
     /// Completes the last entry again, if there is one.
-    fn complete_last(&self) -> Acted
-        ensures { step_of self.now result ≡ steps.sends self.now (steps.done_if_any self.now (steps.last_of self.now.log)) }
+    fn complete_last(&self, acted: &mut Acted)
+        ensures { step_of self.now acted.new ≡ steps.sends self.now (steps.done_if_any self.now (steps.last_of self.now.log)) }
     {
-        self.complete(self.shim.log().len().saturating_sub(1))
+        self.complete(self.shim.log().len().saturating_sub(1), acted);
     }
 
     /// Passes on what the successor hasn't acknowledged.
-    fn pass_on_rest(&self) -> Acted
-        ensures { step_of self.now result ≡ parts.passes_rest self.now }
+    fn pass_on_rest(&self, acted: &mut Acted)
+        ensures { step_of self.now acted.new ≡ parts.passes_rest self.now }
     {
-        let mut outs = Outs::new();
+        send_none(acted);
         if let Some(behind) = self.successor() {
             if self.sender.acked(behind) < self.shim.log().len() {
-                self.pass_on(&mut outs);
+                self.pass_on(&mut acted.outs);
             }
         }
-        sends(outs)
     }
 
     /// Puts the page to the successor behind the packets, if there is a successor.

@@ -11,6 +11,7 @@ use hm_packet::acted::{Acted, Declared};
 use hm_packet::body::{Body, Config, FastRead, Feed, NormalRead, Put};
 use hm_packet::packet::Packet;
 use hm_packet::text::write_packet;
+use hm_replica::acts::blank;
 use std::alloc::Global;
 use std::process::Abort;
 use std::test::Fail;
@@ -81,7 +82,8 @@ fn a_chain_of_one_commits_and_answers(rt: HostRuntime) -> Result<(), Fail> {
         request: 1,
         object: 5,
     });
-    let acted = chain.step(&from_switch(0, read));
+    let mut acted = blank();
+    chain.step(&from_switch(0, read), &mut acted);
     assert_last(&rt, alloc, &acted, b"r0 c8 reply 1 0.0 none")?;
     let put = Body::Put(Put {
         stamp: ONE,
@@ -90,7 +92,7 @@ fn a_chain_of_one_commits_and_answers(rt: HostRuntime) -> Result<(), Fail> {
         object: 5,
         value: Value::from_slice(b"a").ok_or("a value")?,
     });
-    let acted = chain.step(&from_switch(0, put));
+    chain.step(&from_switch(0, put), &mut acted);
     assert_last(&rt, alloc, &acted, b"r0 s1 done 1.1 7 1")?;
     assert_eq!(rt; acted.declared, Declared { from: 0, to: 1 });
     let fast = Body::FastRead(FastRead {
@@ -99,9 +101,9 @@ fn a_chain_of_one_commits_and_answers(rt: HostRuntime) -> Result<(), Fail> {
         request: 1,
         object: 5,
     });
-    let acted = chain.step(&from_switch(0, fast));
+    chain.step(&from_switch(0, fast), &mut acted);
     assert_last(&rt, alloc, &acted, b"r0 c8 reply 1 1.1 61")?;
-    let acted = chain.tick();
+    chain.tick(&mut acted);
     assert_last(&rt, alloc, &acted, b"r0 s1 done 1.1 7 1")?;
     assert_eq!(rt; chain.shim().log().len(), 1);
     assert_eq!(rt; chain.view(), 0);
@@ -115,16 +117,17 @@ fn a_read_behind_a_write_goes_to_the_tail(rt: HostRuntime) -> Result<(), Fail> {
     let first = Value::from_slice(b"a").ok_or("a value")?;
     let second = Value::from_slice(b"b").ok_or("a value")?;
     let mut chain = member_of_three(alloc, 1)?;
-    let acted = chain.step(&page_of_one(0, ONE, 1, first));
+    let mut acted = blank();
+    chain.step(&page_of_one(0, ONE, 1, first), &mut acted);
     assert_last(&rt, alloc, &acted, b"r1 r2 feed 0 0 0 0 1 1.1 7 1 5 61")?;
-    let _ = chain.step(&page_of_one(1, TWO, 2, second));
+    chain.step(&page_of_one(1, TWO, 2, second), &mut acted);
     let fast = Body::FastRead(FastRead {
         stamp: ONE,
         client: 9,
         request: 1,
         object: 5,
     });
-    let acted = chain.step(&from_switch(1, fast));
+    chain.step(&from_switch(1, fast), &mut acted);
     assert_last(&rt, alloc, &acted, b"r1 r2 normalread 9 1 5")?;
     Ok(())
 }
@@ -135,7 +138,8 @@ fn a_new_tail_declares_its_log(rt: HostRuntime) -> Result<(), Fail> {
     let alloc = rt.alloc();
     let value = Value::from_slice(b"a").ok_or("a value")?;
     let mut chain = member_of_three(alloc, 1)?;
-    let _ = chain.step(&page_of_one(0, ONE, 1, value));
+    let mut acted = blank();
+    chain.step(&page_of_one(0, ONE, 1, value), &mut acted);
     let mut members = Members::first(0).ok_or("a member")?;
     members.try_push(1)?;
     let config = Packet {
@@ -143,7 +147,7 @@ fn a_new_tail_declares_its_log(rt: HostRuntime) -> Result<(), Fail> {
         dst: Node::Replica(1),
         body: Body::Config(Config { view: 1, members }),
     };
-    let acted = chain.step(&config);
+    chain.step(&config, &mut acted);
     assert_last(&rt, alloc, &acted, b"r1 s1 done 1.1 7 1")?;
     assert_eq!(rt; acted.declared, Declared { from: 0, to: 1 });
     assert_eq!(rt; chain.view(), 1);

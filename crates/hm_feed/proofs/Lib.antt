@@ -1,1 +1,2 @@
 mod Quorums
+mod Parts

@@ -1,10 +1,17 @@
-ghost use Rattle.std.specs.Prelude.{◌≡◌, ◌<◌, ◌≤◌, ◌+◌, ◌-◌, [], ◌∷◌, ◌++◌, length, drop, None};
-ghost use Rattle.hm_feed.specs.Answers.{taken, answer};
+ghost use Rattle.std.specs.Prelude.{◌≡◌, ◌<◌, ◌≤◌, ◌+◌, ◌-◌, [], ◌∷◌, ◌++◌, length, take, drop, is_some, None, Some, IfOk, IfSome};
+ghost use Rattle.hm_base.specs.Lists.{IsPrefix};
+ghost use Rattle.hm_feed.specs.Answers as answers;
+ghost use Rattle.hm_shim.specs.State.{applied_entries};
+ghost use Rattle.hm_store.specs.Log.{max_log_len};
 
 use hm_base::entries::Entries;
 use hm_base::entry::Entry;
+use hm_base::memory::NoMemory;
 use hm_packet::body::Feed;
 use hm_shim::shim::Shim;
+use hm_store::ledger::Ledger;
+use std::alloc::Global;
+use std::marker::Model;
 
 /// What a follower made of a page, with the length that it holds afterwards.
 #[derive(Clone, Copy, Debug, PartialEq, Eq)]
@@ -23,23 +30,147 @@ pub enum Took {
     LogFull,
 }
 
-/// Takes a page of another's log into the own one: its entries past the end come behind it. Gap where the page begins behind
-/// the end, then LogFull where it reaches past the log's bound; both change nothing.
+/// Takes pages of another's log. While it stages, they go into a list beside the log, which becomes the log once it reaches the
+/// start of the view. All memory is taken at opening. Contracts see the staged list, if there is one, and its capacity.
+#[derive(Drop)]
+pub struct Follower {
+    list: Ledger,
+    staging: bool,
+}
+
+impl Model for Follower {
+    ghost use Rattle.hm_feed.specs.Answers.{Following, staged_list};
+
+    ghost Value = { Following };
+
+    ghost view = { λ f. record { staged = staged_list f.staging f.list.entries; cap = f.list.cap } };
+}
+
+impl Follower {
+    /// A follower that doesn't stage, with room for a staged list of `cap` entries.
+    pub fn open(alloc: Global, cap: u32) -> Result<Follower, NoMemory>
+        requires { cap ≤ max_log_len }
+        ensures { IfOk result (λ f. f ≡ record { staged = None; cap = cap }) }
+    {
+        Ok(Follower {
+            list: Ledger::open(alloc, cap)?,
+            staging: false,
+        })
+    }
+
+    /// Begins to stage, with the first `known` entries of a log.
+    pub fn begin(&mut self, log: &Ledger, known: u32)
+        requires caps { log.now.cap ≡ self.old.cap }
+        requires within { known ≤ length log.now.entries }
+        ensures { self.new ≡ record self.old { staged = Some (take known log.now.entries) } }
+    {
+        self.list.copy_front(log, known);
+        self.staging = true;
+    }
+
+    /// Stages no more.
+    pub fn end(&mut self)
+        ensures { self.new ≡ record self.old { staged = None } }
+    {
+        self.staging = false;
+    }
+
+    /// Whether there is a staged list.
+    pub fn staging(&self) -> bool
+        ensures { result ≡ is_some self.now.staged }
+    {
+        self.staging
+    }
+
+    /// Takes a page: its entries past the end come behind the staged list, or else behind the log. Gap where the page begins
+    /// behind the end, then LogFull where it reaches past the log's bound; both change nothing.
+    pub fn take(&mut self, shim: &mut Shim, feed: &Feed) -> Took
+        requires caps { self.old.cap ≡ shim.old.cap }
+        requires begins { IfSome self.old.staged (λ list. IsPrefix (applied_entries shim.old) list) }
+        ensures log { shim.new ≡ record shim.old { entries = (answers.taken shim.old self.old.staged feed.now).log } }
+        ensures staged { self.new ≡ record self.old { staged = (answers.taken shim.old self.old.staged feed.now).staged } }
+        ensures took { result ≡ answers.answer (answers.taken shim.old self.old.staged feed.now) }
+    {
+        if !self.staging {
+            return take(shim, feed);
+        }
+        let took = stage(&mut self.list, shim, feed);
+        self.staging = !matches!(took, Took::Adopted(_));
+        took
+    }
+}
+
+/// Takes a page where nothing is staged.
 pub fn take(shim: &mut Shim, feed: &Feed) -> Took
-    ensures log { shim.new ≡ record shim.old { entries = (taken shim.old None feed.now).log } }
-    ensures took { result ≡ answer (taken shim.old None feed.now) }
+    ensures log { shim.new ≡ record shim.old { entries = (answers.taken shim.old None feed.now).log } }
+    ensures took { result ≡ answers.answer (answers.taken shim.old None feed.now) }
 {
     let held = shim.log().len();
+    match new_from(feed, held, shim.log().cap()) {
+        Err(refusal) => refusal,
+        Ok(from) => {
+            extend(shim, &feed.entries, from);
+            grown(held, shim.log().len())
+        }
+    }
+}
+
+/// Takes a page into a staged list.
+fn stage(staged: &mut Ledger, shim: &mut Shim, feed: &Feed) -> Took
+    requires caps { staged.old.cap ≡ shim.old.cap }
+    requires begins { IsPrefix (applied_entries shim.old) staged.old.entries }
+    ensures log { shim.new ≡ record shim.old { entries = (answers.taken shim.old (Some staged.old.entries) feed.now).log } }
+    ensures staged { answers.staged_list (answers.stages_on result) staged.new.entries ≡ (answers.taken shim.old (Some staged.old.entries) feed.now).staged }
+    ensures cap { staged.new.cap ≡ staged.old.cap }
+    ensures took { result ≡ answers.answer (answers.taken shim.old (Some staged.old.entries) feed.now) }
+{
+    match new_from(feed, staged.len(), staged.cap()) {
+        Err(refusal) => refusal,
+        Ok(from) => {
+            extend_list(staged, &feed.entries, from);
+            adopt_from(feed.start, staged, shim)
+        }
+    }
+}
+
+/// A staged list that has reached the start of the view becomes the log.
+fn adopt_from(start: u32, staged: &mut Ledger, shim: &mut Shim) -> Took
+    requires caps { staged.old.cap ≡ shim.old.cap }
+    requires begins { IsPrefix (applied_entries shim.old) staged.old.entries }
+    ensures log { shim.new ≡ record shim.old { entries = (answers.staged_from shim.old staged.old.entries start).log } }
+    ensures staged { answers.staged_list (answers.stages_on result) staged.new.entries ≡ (answers.staged_from shim.old staged.old.entries start).staged }
+    ensures cap { staged.new.cap ≡ staged.old.cap }
+    ensures took { result ≡ answers.answer (answers.staged_from shim.old staged.old.entries start) }
+{
+    let len = staged.len();
+    if len < start {
+        return Took::Staged(len);
+    }
+    shim.adopt(staged);
+    Took::Adopted(len)
+}
+
+/// The place in a page from which on it is new to one who holds so many entries, or why it isn't taken.
+fn new_from(feed: &Feed, held: u32, cap: u32) -> Result<u32, Took>
+    requires { held ≤ cap }
+    ensures value { result ≡ answers.new_from cap held feed.now.first (length feed.now.entries) }
+    ensures room { IfOk result (λ from. held + (length feed.now.entries - from) ≤ cap) }
+{
     if feed.first > held {
-        return Took::Gap;
+        return Err(Took::Gap);
     }
     let end = u64::from(feed.first) + u64::from(feed.entries.len());
-    if end > u64::from(shim.log().cap()) {
-        return Took::LogFull;
+    if end > u64::from(cap) {
+        return Err(Took::LogFull);
     }
-    extend(shim, &feed.entries, held - feed.first);
-    let len = shim.log().len();
-    if len == held {
+    Ok(held - feed.first)
+}
+
+/// What is told of a log that had one length and has another.
+fn grown(before: u32, len: u32) -> Took
+    ensures { result ≡ answers.grown before len }
+{
+    if len == before {
         Took::Same(len)
     } else {
         Took::Grown(len)
@@ -65,4 +196,25 @@ fn put(shim: &mut Shim, entry: Entry)
     ensures { shim.new ≡ record shim.old { entries = shim.old.entries ++ entry ∷ [] } }
 {
     let _ = shim.append(entry);
+}
+
+/// Puts the entries from a place on behind a list, which has room for them.
+fn extend_list(list: &mut Ledger, entries: &Entries, from: u32)
+    requires { length list.old.entries + (length entries.now - from) ≤ list.old.cap }
+    ensures { list.new ≡ record list.old { entries = list.old.entries ++ drop from entries.now } }
+{
+    for i in from..entries.len() {
+        match entries.get(i) {
+            Some(entry) => put_last(list, entry),
+            None => {}
+        }
+    }
+}
+
+/// Puts an entry behind a list, which has room for it.
+fn put_last(list: &mut Ledger, entry: Entry)
+    requires { length list.old.entries < list.old.cap }
+    ensures { list.new ≡ record list.old { entries = list.old.entries ++ entry ∷ [] } }
+{
+    let _ = list.push(entry);
 }

@@ -4,3 +4,5 @@
 pub mod follower;
 mod quorum;
 pub mod sender;
+#[cfg(test)]
+mod tests;

@@ -1,4 +1,4 @@
-ghost use Rattle.std.specs.Prelude.{◌≡◌, ◌<◌, ◌↔◌, [], ◌∷◌, ◌++◌, length, slice_get, IsOk, OnOk, OnErr};
+ghost use Rattle.std.specs.Prelude.{◌≡◌, ◌<◌, ◌≤◌, ◌↔◌, [], ◌∷◌, ◌++◌, length, slice_get, IsOk, OnOk, OnErr};
 ghost use Rattle.std.specs.Option.{option_copied};
 ghost use Rattle.hm_packet.specs.Steps.{max_outs};
 
@@ -38,6 +38,13 @@ impl Outs {
         }
     }
 
+    /// Forgets all packets.
+    pub fn clear(&mut self)
+        ensures { self.new ≡ [] }
+    {
+        self.list.clear();
+    }
+
     /// Puts a packet behind the others. Refused exactly where the list is full; then nothing changes.
     pub fn try_push(&mut self, packet: Packet) -> Result<(), ListFull>
         ensures room { IsOk result ↔ (length self.old < max_outs) }
@@ -53,7 +60,8 @@ impl Outs {
 
     /// How many packets there are.
     pub fn len(&self) -> u32
-        ensures { result ≡ length self.now }
+        ensures value { result ≡ length self.now }
+        ensures few { result ≤ max_outs }
     {
         self.list.len() as u32
     }

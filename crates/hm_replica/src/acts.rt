@@ -1,5 +1,6 @@
 ghost use Rattle.std.specs.Prelude.{◌≡◌, ◌<◌, [], ◌∷◌, ◌++◌, length};
 ghost use Rattle.hm_packet.specs.Steps.{max_outs};
+ghost use Rattle.hm_rules.specs.ReplicaSteps.{nothing};
 ghost use Rattle.hm_replica.specs.Steps.{ignored_act, log_full_act, sends_act};
 
 use hm_base::why::Why;
@@ -10,53 +11,53 @@ use hm_packet::packet::Packet;
 /// The empty range of a log.
 const NOTHING: Declared = Declared { from: 0, to: 0 };
 
-/// A packet of which no notice is taken.
-pub fn ignored(why: Why) -> Acted
-    ensures { result ≡ ignored_act why }
+/// A step that has sent nothing yet.
+pub fn blank() -> Acted
+    ensures { result ≡ sends_act [] }
 {
     Acted {
         outs: Outs::new(),
-        declared: NOTHING,
-        did: Did::Ignored(why),
-    }
-}
-
-/// A packet for which the log has no room.
-pub fn log_full() -> Acted
-    ensures { result ≡ log_full_act }
-{
-    Acted {
-        outs: Outs::new(),
-        declared: NOTHING,
-        did: Did::LogFull,
-    }
-}
-
-/// A step that sends these packets and declares nothing.
-pub fn sends(outs: Outs) -> Acted
-    ensures { result ≡ sends_act outs }
-{
-    Acted {
-        outs,
         declared: NOTHING,
         did: Did::Done,
     }
 }
 
-/// A step that sends one packet and declares nothing.
-pub fn sends_one(packet: Packet) -> Acted
-    ensures { result ≡ sends_act (packet ∷ []) }
+/// No notice is taken of a packet.
+pub fn ignore(acted: &mut Acted, why: Why)
+    ensures { acted.new ≡ ignored_act why }
 {
-    sends(one(packet))
+    end(acted, Did::Ignored(why));
 }
 
-/// One packet.
-pub fn one(packet: Packet) -> Outs
-    ensures { result ≡ packet ∷ [] }
+/// The log has no room for a packet.
+pub fn log_full(acted: &mut Acted)
+    ensures { acted.new ≡ log_full_act }
 {
-    let mut outs = Outs::new();
-    push(&mut outs, packet);
-    outs
+    end(acted, Did::LogFull);
+}
+
+/// A step that sends and declares nothing.
+pub fn send_none(acted: &mut Acted)
+    ensures { acted.new ≡ sends_act [] }
+{
+    end(acted, Did::Done);
+}
+
+/// A step that sends one packet and declares nothing.
+pub fn send_one(acted: &mut Acted, packet: Packet)
+    ensures { acted.new ≡ sends_act (packet ∷ []) }
+{
+    send_none(acted);
+    push(&mut acted.outs, packet);
+}
+
+/// A step that sends and declares nothing ends so.
+fn end(acted: &mut Acted, did: Did)
+    ensures { acted.new ≡ record { outs = []; declared = nothing; did = did } }
+{
+    acted.outs.clear();
+    acted.declared = NOTHING;
+    acted.did = did;
 }
 
 /// Puts a packet behind the others, where there is room for it.

@@ -4,7 +4,6 @@ ghost use Rattle.hm_rules.specs.Numbers.{stands_in};
 ghost use Rattle.hm_rules.specs.Replica.{Replica, opened};
 ghost use Rattle.hm_rules.specs.Service.{replicas_below};
 ghost use Rattle.hm_store.specs.Log.{max_log_len};
-ghost use Rattle.hm_packet.specs.Steps.{max_outs};
 ghost use Rattle.hm_world.specs.Settled.{IsStepAt};
 
 use hm_base::members::Members;
@@ -34,21 +33,19 @@ pub(crate) fn open_replicas(
 }
 
 /// The replica of a number handles a packet.
-pub(crate) fn step_at(replicas: &mut Vec<Chain>, number: u8, packet: &Packet) -> Acted
+pub(crate) fn step_at(replicas: &mut Vec<Chain>, number: u8, packet: &Packet, acted: &mut Acted)
     requires { number < length replicas.old.items }
-    ensures few { length result.outs ≤ max_outs }
-    ensures step { (r : Replica) → slice_get replicas.old.items number ≡ Some r → IsStepAt replicas.old.items replicas.new.items number result (chain_step r packet.now) }
+    ensures { (r : Replica) → slice_get replicas.old.items number ≡ Some r → IsStepAt replicas.old.items replicas.new.items number acted.new (chain_step r packet.now) }
 {
-    replicas[number as usize].step(packet)
+    replicas[number as usize].step(packet, acted);
 }
 
 /// The replica of a number does what it does from time to time.
-pub(crate) fn tick_at(replicas: &mut Vec<Chain>, number: u8) -> Acted
+pub(crate) fn tick_at(replicas: &mut Vec<Chain>, number: u8, acted: &mut Acted)
     requires { number < length replicas.old.items }
-    ensures few { length result.outs ≤ max_outs }
-    ensures step { (r : Replica) → slice_get replicas.old.items number ≡ Some r → IsStepAt replicas.old.items replicas.new.items number result (chain_tick r) }
+    ensures { (r : Replica) → slice_get replicas.old.items number ≡ Some r → IsStepAt replicas.old.items replicas.new.items number acted.new (chain_tick r) }
 {
-    replicas[number as usize].tick()
+    replicas[number as usize].tick(acted);
 }
 
 /// The log of the replica of a number.

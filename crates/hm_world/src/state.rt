@@ -107,7 +107,7 @@ impl State {
     }
 
     /// One event, with its bars in order.
-    pub(crate) fn event(&mut self, event: &Event) -> Result<Outcome, NoMemory>
+    pub(crate) fn event(&mut self, event: &Event, acted: &mut Acted) -> Result<Outcome, NoMemory>
         requires few { self.old.events < max_events }
         requires ready { IsReady self.old.world }
         ensures world { OnOk result (slotted_of self.new ≡ slot_step (slotted_of self.old) (event_of event.now)) }
@@ -147,10 +147,10 @@ impl State {
                 switch,
             } => self.invoke(*client, Want::Read { object: *object }, *switch),
             Event::Resend { client, switch } => self.resend(*client, *switch),
-            Event::Deliver { packet } => self.deliver_again(*packet),
-            Event::Next => self.next(),
+            Event::Deliver { packet } => self.deliver_again(*packet, acted),
+            Event::Next => self.next(acted),
             Event::Drop => self.lose_next(),
-            Event::Tick { replica } => self.tick(*replica),
+            Event::Tick { replica } => self.tick(*replica, acted),
             Event::Stop { replica } => self.stop(*replica),
             Event::Remove { replica } => self.remove(*replica),
         }
@@ -275,7 +275,7 @@ impl State {
     }
 
     /// The packet of this number arrives, whether or not it did before.
-    fn deliver_again(&mut self, number: u32) -> Outcome
+    fn deliver_again(&mut self, number: u32, acted: &mut Acted) -> Outcome
         requires { IsBegun self.old }
         ensures world { self.new.world ≡ (arrival.deliver (finds_full_with (slotted_of self.old) (rule.sent_at self.old.world number)) self.old.world (rule.sent_at self.old.world number)).world }
         ensures outcome { result ≡ (arrival.deliver (finds_full_with (slotted_of self.old) (rule.sent_at self.old.world number)) self.old.world (rule.sent_at self.old.world number)).outcome }
@@ -284,12 +284,12 @@ impl State {
     {
         match self.sent(number) {
             None => Outcome::NotAllowed(Bar::NoPacket),
-            Some(packet) => self.deliver(&packet),
+            Some(packet) => self.deliver(&packet, acted),
         }
     }
 
     /// The packet at the cursor arrives, if there is one.
-    fn next(&mut self) -> Outcome
+    fn next(&mut self, acted: &mut Acted) -> Outcome
         requires { IsBegun self.old }
         ensures world { self.new.world ≡ (rules.next (finds_full_with (slotted_of self.old) (slice_get self.old.world.net self.old.world.cursor)) self.old.world (slice_get self.old.world.net self.old.world.cursor)).world }
         ensures outcome { result ≡ (rules.next (finds_full_with (slotted_of self.old) (slice_get self.old.world.net self.old.world.cursor)) self.old.world (slice_get self.old.world.net self.old.world.cursor)).outcome }
@@ -300,7 +300,7 @@ impl State {
             None => Outcome::NotAllowed(Bar::NoPacket),
             Some(packet) => {
                 self.pass();
-                self.deliver(&packet)
+                self.deliver(&packet, acted)
             }
         }
     }
@@ -341,7 +341,7 @@ impl State {
     }
 
     /// A packet arrives at the node that it is addressed to.
-    fn deliver(&mut self, packet: &Packet) -> Outcome
+    fn deliver(&mut self, packet: &Packet, acted: &mut Acted) -> Outcome
         requires { IsBegun self.old }
         ensures world { self.new.world ≡ (arrival.to_node (finds_full_in (slotted_of self.old) (senders.number packet.now.dst) packet.now.body) self.old.world packet.now packet.now.dst).world }
         ensures outcome { result ≡ (arrival.to_node (finds_full_in (slotted_of self.old) (senders.number packet.now.dst) packet.now.body) self.old.world packet.now packet.now.dst).outcome }
@@ -351,7 +351,7 @@ impl State {
         match packet.dst {
             Node::Client(number) => self.to_client(number, &packet.body),
             Node::Switch(number) => self.to_switch(number, packet),
-            Node::Replica(number) => self.to_replica(number, packet),
+            Node::Replica(number) => self.to_replica(number, packet, acted),
             Node::Config => self.to_service(packet),
         }
     }
@@ -491,7 +491,7 @@ impl State {
     }
 
     /// A packet arrives at a replica.
-    fn to_replica(&mut self, number: u8, packet: &Packet) -> Outcome
+    fn to_replica(&mut self, number: u8, packet: &Packet, acted: &mut Acted) -> Outcome
         requires { IsBegun self.old }
         ensures world { self.new.world ≡ (arrival.to_replica self.old.world packet.now number (slice_get self.old.world.replicas number)).world }
         ensures outcome { result ≡ (arrival.to_replica self.old.world packet.now number (slice_get self.old.world.replicas number)).outcome }
@@ -501,12 +501,12 @@ impl State {
         if self.bar_at(number).is_some() {
             return Outcome::Ignored(Why::Gone);
         }
-        let acted = self.step_replica(number, packet);
-        self.settle(number, &acted)
+        self.step_replica(number, packet, acted);
+        self.settle(number, acted)
     }
 
     /// A replica's clock ticks.
-    fn tick(&mut self, number: u8) -> Outcome
+    fn tick(&mut self, number: u8, acted: &mut Acted) -> Outcome
         requires { IsBegun self.old }
         ensures world { self.new.world ≡ (rules.happens self.old.world (event_of (Event.Tick number)) false).world }
         ensures outcome { result ≡ (rules.happens self.old.world (event_of (Event.Tick number)) false).outcome }
@@ -516,8 +516,8 @@ impl State {
         if let Some(bar) = self.bar_at(number) {
             return Outcome::NotAllowed(bar);
         }
-        let acted = self.tick_replica(number);
-        self.settle(number, &acted)
+        self.tick_replica(number, acted);
+        self.settle(number, acted)
     }
 
     /// A replica stops for good.
@@ -566,38 +566,35 @@ impl State {
     }
 
     /// A replica handles a packet.
-    fn step_replica(&mut self, number: u8, packet: &Packet) -> Acted
+    fn step_replica(&mut self, number: u8, packet: &Packet, acted: &mut Acted)
         requires there { number < length self.old.world.replicas }
         requires front { IsFront self.old.world number }
         ensures rooms { SameRooms self.old self.new }
         ensures switches { switches_of self.new ≡ switches_of self.old }
-        ensures few { length result.outs ≤ max_outs }
-        ensures step { (r : Replica) → slice_get self.old.world.replicas number ≡ Some r → IsStep self.old self.new number result (chain_step r packet.now) }
+        ensures step { (r : Replica) → slice_get self.old.world.replicas number ≡ Some r → IsStep self.old self.new number acted.new (chain_step r packet.now) }
         ensures count { length self.new.world.replicas ≡ length self.old.world.replicas }
         ensures front { IsFront self.new.world number }
     {
         chain_log_grows();
-        step_at(&mut self.replicas, number, packet)
+        step_at(&mut self.replicas, number, packet, acted);
     }
 
     /// A replica does what it does from time to time.
-    fn tick_replica(&mut self, number: u8) -> Acted
+    fn tick_replica(&mut self, number: u8, acted: &mut Acted)
         requires there { number < length self.old.world.replicas }
         requires front { IsFront self.old.world number }
         ensures rooms { SameRooms self.old self.new }
         ensures switches { switches_of self.new ≡ switches_of self.old }
-        ensures few { length result.outs ≤ max_outs }
-        ensures step { (r : Replica) → slice_get self.old.world.replicas number ≡ Some r → IsStep self.old self.new number result (chain_tick r) }
+        ensures step { (r : Replica) → slice_get self.old.world.replicas number ≡ Some r → IsStep self.old self.new number acted.new (chain_tick r) }
         ensures count { length self.new.world.replicas ≡ length self.old.world.replicas }
         ensures front { IsFront self.new.world number }
     {
         chain_log_grows();
-        tick_at(&mut self.replicas, number)
+        tick_at(&mut self.replicas, number, acted);
     }
 
     /// What a replica's step gave: what it declared joins the declared list, and what it sent the net.
     fn settle(&mut self, number: u8, acted: &Acted) -> Outcome
-        requires few { length acted.now.outs ≤ max_outs }
         requires marks { self.old.world.setup.cap ≤ self.old.mark_room }
         requires room { max_outs ≤ self.old.net_room }
         requires net { length self.old.world.net + max_outs ≤ max_outs * self.old.events }
@@ -611,12 +608,10 @@ impl State {
         let first = self.sent_count() + 1;
         match acted.did {
             Did::Done => {
+                let count = acted.outs.len();
                 self.declare(number, acted.declared.to);
                 self.post_all(&acted.outs);
-                Outcome::Ok {
-                    first,
-                    count: acted.outs.len(),
-                }
+                Outcome::Ok { first, count }
             }
             Did::Ignored(why) => Outcome::Ignored(why),
             Did::LogFull => Outcome::LogFull,

@@ -10,8 +10,10 @@ use crate::state::State;
 use hm_base::memory::NoMemory;
 use hm_chain_laws::chain::{chain_stays_sound, sound_world_keeps_declared};
 use hm_order::history::History;
+use hm_packet::acted::Acted;
 use hm_packet::outcome::Outcome;
 use hm_packet::packet::Packet;
+use hm_replica::acts::blank;
 use std::alloc::Global;
 use std::marker::Model;
 
@@ -20,6 +22,7 @@ use std::marker::Model;
 #[derive(Drop)]
 pub struct World {
     state: State,
+    acted: Acted,
 }
 
 impl Model for World {
@@ -47,6 +50,7 @@ impl World {
         chain_stays_sound();
         Ok(World {
             state: State::open(alloc, setup)?,
+            acted: blank(),
         })
     }
 
@@ -61,7 +65,7 @@ impl World {
     {
         chain_stays_sound();
         sound_world_keeps_declared();
-        self.state.event(event)
+        self.state.event(event, &mut self.acted)
     }
 
     /// How many events were answered since opening, otherwise than by want of memory.

@@ -22,5 +22,5 @@ loop-i-preserved c =
           }
       | in_default w ↦
           let past = missing c.args.outs.now c.loop-i.i (sym c.get.ensures ∙ ap option_copied w.in_default.is) in
-          absurd (omega (arith, past, c.loop-i-test.true, c.len-i-end.ensures))
+          absurd (omega (arith, past, c.loop-i-test.true, c.len-i-end.ensures.value))
     ]

@@ -26,7 +26,7 @@ invariant_of-self c =
       cursor = h.cursor;
       handled = h.handled;
       requests = h.requests;
-      replicas = subst (λ (rs : List Replica). All (λ (r : Replica). IsMember w.setup.cap r) rs) (sym (c.step_at.ensures.step r one.1).replicas) members;
+      replicas = subst (λ (rs : List Replica). All (λ (r : Replica). IsMember w.setup.cap r) rs) (sym (c.step_at.ensures r one.1).replicas) members;
       group = h.group;
       bounded = h.bounded;
       declared_room = h.declared_room;
@@ -35,9 +35,9 @@ invariant_of-self c =
 pub returns-clause-step : goal.returns-clause-step
 returns-clause-step c =
     let w = c.self.inside in
-    subst (λ (x : Parts). (r : Replica) → slice_get x.world.replicas c.args.number ≡ Some r → IsStep x (record (parts_of w) { world = record (world_of w) { replicas = c.step_at.new.replicas.items } }) c.args.number c.step_at.result (chain_step r c.args.packet.now)) c.self.view_is
+    subst (λ (x : Parts). (r : Replica) → slice_get x.world.replicas c.args.number ≡ Some r → IsStep x (record (parts_of w) { world = record (world_of w) { replicas = c.step_at.new.replicas.items } }) c.args.number c.step_at.new.acted (chain_step r c.args.packet.now)) c.self.view_is
     (λ r here.
-    let s = c.step_at.ensures.step r here in
+    let s = c.step_at.ensures r here in
     record { same = ap (λ (rs : List Replica). record (parts_of w) { world = record (world_of w) { replicas = rs } }) s.replicas; gives = s.gives })
 
 pub returns-clause-count : goal.returns-clause-count
@@ -45,7 +45,7 @@ returns-clause-count c =
     let w = c.self.inside in
     let there = subst (λ (x : Parts). c.args.number < length x.world.replicas) (sym c.self.view_is) c.requires.there in
     let one = one_at w.replicas.items c.args.number there in
-    ap length (c.step_at.ensures.step one.0 one.1).replicas ∙ length-set w.replicas.items c.args.number _ ∙ ap (λ (x : Parts). length x.world.replicas) c.self.view_is
+    ap length (c.step_at.ensures one.0 one.1).replicas ∙ length-set w.replicas.items c.args.number _ ∙ ap (λ (x : Parts). length x.world.replicas) c.self.view_is
 
 pub returns-clause-front : goal.returns-clause-front
 returns-clause-front c =
@@ -58,5 +58,5 @@ returns-clause-front c =
     let member = all_at (λ (r : Replica). IsMember w.setup.cap r) w.replicas.items c.args.number old h.replicas one.1 in
     λ r here.
     let same : (chain_step old c.args.packet.now).replica ≡ r =
-    same_Some _ _ (sym (get_set w.replicas.items c.args.number (chain_step old c.args.packet.now).replica there) ∙ ap (λ (rs : List Replica). slice_get rs c.args.number) (sym (c.step_at.ensures.step old one.1).replicas) ∙ here) in
+    same_Some _ _ (sym (get_set w.replicas.items c.args.number (chain_step old c.args.packet.now).replica there) ∙ ap (λ (rs : List Replica). slice_get rs c.args.number) (sym (c.step_at.ensures old one.1).replicas) ∙ here) in
     subst (λ (q : Replica). IsPrefix w.declared.items q.log) same (front_later w.declared.items old.log (chain_step old c.args.packet.now).replica.log (front old one.1) (c.chain_log_grows.ensures.step old c.args.packet.now member.unstaged).log)
