@@ -101,6 +101,32 @@ impl Unframer {
         }
     }
 
+    /// The payload of the next frame.
+    pub fn payload(&self) -> Result<Option<&[u8]>, Malformed>
+    {
+        let held = self.bytes.as_slice();
+        let Some(len) = payload_len(held) else {
+            return Ok(None);
+        };
+        if len > MAX_PAYLOAD_LEN {
+            return Err(Malformed {
+                at: 0,
+                reason: Reason::Length,
+            });
+        }
+        let end = HEAD_LEN + len;
+        if held.len() < end {
+            return Ok(None);
+        }
+        Ok(Some(&held[HEAD_LEN..end]))
+    }
+
+    /// Takes the frame of so many bytes behind its head away.
+    pub fn skip(&mut self, len: usize)
+    {
+        self.bytes.advance(HEAD_LEN + len);
+    }
+
     /// How many bytes are held.
     pub fn held(&self) -> usize
         ensures { result ≡ length self.now }

@@ -96,13 +96,15 @@ fn write_frames(
     ensures { TakesFrames result unframer.old unframer.new count.old count.new text.old.items text.new.items }
 {
     while *count < MAX_FRAMES {
-        match unframer.next() {
-            Ok(Some(packet)) => {
-                *count += 1;
-                match write_packet_line(*count, &packet, text) {
+        match unframer.payload() {
+            Ok(Some(payload)) => {
+                let len = payload.len();
+                match write_packet_line(*count + 1, payload, text)? {
                     Ok(()) => {}
-                    Err(failed) => return Err(failed),
+                    Err(inner) => return Ok(Some(Verdict::Bad(Malformed { at: inner.at + 2, reason: inner.reason }))),
                 }
+                unframer.skip(len);
+                *count += 1;
             }
             Ok(None) => return Ok(None),
             Err(fault) => return Ok(Some(Verdict::Bad(fault))),

@@ -6,19 +6,26 @@ use crate::verdict::Verdict;
 use hm_base::memory::NoMemory;
 use hm_base::text::{write_bytes, write_number};
 use hm_codec::malformed::{Malformed, Reason};
-use hm_packet::packet::Packet;
-use hm_packet::text::write_packet;
+use hm_codec::text::write_spelled;
 
 /// Appends a packet's line: its number, counted from 1, and its text. After want of memory `out` may hold a part of it, here and
 /// in the other calls of this module.
-pub fn write_packet_line(number: u32, packet: &Packet, out: &mut Vec<u8>) -> Result<(), NoMemory>
-    ensures { OnOk result (out.new.items ≡ out.old.items ++ packet_lines number (packet.now ∷ [])) }
+pub fn write_packet_line(number: u32, payload: &[u8], out: &mut Vec<u8>) -> Result<Result<(), Malformed>, NoMemory>
 {
+    let len = out.len();
     write_bytes(b"packet ", out)?;
     write_number(u64::from(number), out)?;
-    write_bytes(b" ", out)?;
-    write_packet(packet, out)?;
-    write_bytes(b"\n", out)
+    out.push(b' ')?;
+    match write_spelled(payload, out)? {
+        Ok(()) => {
+            out.push(b'\n')?;
+            Ok(Ok(()))
+        }
+        Err(fault) => {
+            out.truncate(len);
+            Ok(Err(fault))
+        }
+    }
 }
 
 /// Appends the last line where the input was frames to its end: how many.
