@@ -13,7 +13,7 @@ pub mod laws;
 mod lists;
 pub mod malformed;
 mod parts;
-pub mod text;
-mod words;
 #[cfg(test)]
 mod tests;
+pub mod text;
+mod words;

@@ -15,7 +15,9 @@ use hm_base::entries::Entries;
 use hm_base::memory::NoMemory;
 use hm_packet::body::{Feed, Page};
 use hm_packet::words::{
-    write_read, write_write, write_put, write_fast_read, write_normal_read, write_done, write_reply, write_feed, write_feed_ack, write_ask, write_known, write_start_view_change, write_vote, write_pull, write_page, write_config, write_route, write_refuse, write_refused,
+    write_ask, write_config, write_done, write_fast_read, write_feed, write_feed_ack, write_known,
+    write_normal_read, write_page, write_pull, write_put, write_read, write_refuse, write_refused,
+    write_reply, write_route, write_start_view_change, write_vote, write_write,
 };
 
 /// Writes what was read, where it was read.
@@ -34,7 +36,11 @@ macro_rules! words {
 /// Reads the body of the kind with this code, and appends its words. Here and below, what is appended where a fault is found
 /// is a part of them.
 #[tactic(auto, unfolding(crate::specs::Reading::body_at))]
-pub(crate) fn body_words<'a>(code: u8, bytes: &'a [u8], out: &mut Vec<u8>) -> Result<Result<&'a [u8], Fault>, NoMemory>
+pub(crate) fn body_words<'a>(
+    code: u8,
+    bytes: &'a [u8],
+    out: &mut Vec<u8>,
+) -> Result<Result<&'a [u8], Fault>, NoMemory>
     ensures words { IfOk result (λ r. Gives (λ rest. (out.new.items, rest.now)) r (worded out.old.items (reading.body_at code bytes.now))) }
     ensures front { IsPrefix out.old.items out.new.items }
 {
@@ -86,7 +92,10 @@ fn put_words<'a>(bytes: &'a [u8], out: &mut Vec<u8>) -> Result<Result<&'a [u8], 
 }
 
 /// Reads a stamped read, and appends its words.
-fn fast_read_words<'a>(bytes: &'a [u8], out: &mut Vec<u8>) -> Result<Result<&'a [u8], Fault>, NoMemory>
+fn fast_read_words<'a>(
+    bytes: &'a [u8],
+    out: &mut Vec<u8>,
+) -> Result<Result<&'a [u8], Fault>, NoMemory>
     ensures words { IfOk result (λ r. Gives (λ rest. (out.new.items, rest.now)) r (worded out.old.items (as_body (λ b. body.FastRead b) (reading.fast_read_at bytes.now)))) }
     ensures front { IsPrefix out.old.items out.new.items }
 {
@@ -94,11 +103,18 @@ fn fast_read_words<'a>(bytes: &'a [u8], out: &mut Vec<u8>) -> Result<Result<&'a 
 }
 
 /// Reads a read that goes the normal way, and appends its words.
-fn normal_read_words<'a>(bytes: &'a [u8], out: &mut Vec<u8>) -> Result<Result<&'a [u8], Fault>, NoMemory>
+fn normal_read_words<'a>(
+    bytes: &'a [u8],
+    out: &mut Vec<u8>,
+) -> Result<Result<&'a [u8], Fault>, NoMemory>
     ensures words { IfOk result (λ r. Gives (λ rest. (out.new.items, rest.now)) r (worded out.old.items (as_body (λ b. body.NormalRead b) (reading.normal_read_at bytes.now)))) }
     ensures front { IsPrefix out.old.items out.new.items }
 {
-    words!(normal_read_at(bytes), fields, write_normal_read(&fields, out))
+    words!(
+        normal_read_at(bytes),
+        fields,
+        write_normal_read(&fields, out)
+    )
 }
 
 /// Reads a completion, and appends its words.
@@ -126,12 +142,24 @@ fn feed_words<'a>(bytes: &'a [u8], out: &mut Vec<u8>) -> Result<Result<&'a [u8],
     words!(
         feed_at(bytes, &mut entries),
         fields,
-        write_feed(&Feed { view: fields.view, start: fields.start, first: fields.first, commit: fields.commit, entries }, out)
+        write_feed(
+            &Feed {
+                view: fields.view,
+                start: fields.start,
+                first: fields.first,
+                commit: fields.commit,
+                entries
+            },
+            out
+        )
     )
 }
 
 /// Reads how long a list is held, and appends its words.
-fn feed_ack_words<'a>(bytes: &'a [u8], out: &mut Vec<u8>) -> Result<Result<&'a [u8], Fault>, NoMemory>
+fn feed_ack_words<'a>(
+    bytes: &'a [u8],
+    out: &mut Vec<u8>,
+) -> Result<Result<&'a [u8], Fault>, NoMemory>
     ensures words { IfOk result (λ r. Gives (λ rest. (out.new.items, rest.now)) r (worded out.old.items (as_body (λ b. body.FeedAck b) (reading.feed_ack_at bytes.now)))) }
     ensures front { IsPrefix out.old.items out.new.items }
 {
@@ -155,11 +183,18 @@ fn known_words<'a>(bytes: &'a [u8], out: &mut Vec<u8>) -> Result<Result<&'a [u8]
 }
 
 /// Reads a view that is entered, and appends its words.
-fn start_view_change_words<'a>(bytes: &'a [u8], out: &mut Vec<u8>) -> Result<Result<&'a [u8], Fault>, NoMemory>
+fn start_view_change_words<'a>(
+    bytes: &'a [u8],
+    out: &mut Vec<u8>,
+) -> Result<Result<&'a [u8], Fault>, NoMemory>
     ensures words { IfOk result (λ r. Gives (λ rest. (out.new.items, rest.now)) r (worded out.old.items (as_body (λ b. body.StartViewChange b) (reading.start_view_change_at bytes.now)))) }
     ensures front { IsPrefix out.old.items out.new.items }
 {
-    words!(start_view_change_at(bytes), fields, write_start_view_change(&fields, out))
+    words!(
+        start_view_change_at(bytes),
+        fields,
+        write_start_view_change(&fields, out)
+    )
 }
 
 /// Reads a vote, and appends its words.
@@ -187,7 +222,14 @@ fn page_words<'a>(bytes: &'a [u8], out: &mut Vec<u8>) -> Result<Result<&'a [u8],
     words!(
         page_at(bytes, &mut entries),
         fields,
-        write_page(&Page { view: fields.view, first: fields.first, entries }, out)
+        write_page(
+            &Page {
+                view: fields.view,
+                first: fields.first,
+                entries
+            },
+            out
+        )
     )
 }
 
@@ -216,7 +258,10 @@ fn refuse_words<'a>(bytes: &'a [u8], out: &mut Vec<u8>) -> Result<Result<&'a [u8
 }
 
 /// Reads a refused switch, and appends its words.
-fn refused_words<'a>(bytes: &'a [u8], out: &mut Vec<u8>) -> Result<Result<&'a [u8], Fault>, NoMemory>
+fn refused_words<'a>(
+    bytes: &'a [u8],
+    out: &mut Vec<u8>,
+) -> Result<Result<&'a [u8], Fault>, NoMemory>
     ensures words { IfOk result (λ r. Gives (λ rest. (out.new.items, rest.now)) r (worded out.old.items (as_body (λ b. body.Refused b) (reading.refused_at bytes.now)))) }
     ensures front { IsPrefix out.old.items out.new.items }
 {
