@@ -94,14 +94,17 @@ tells_packet bytes text out fits w = by_case (packet_of bytes) refl w
         (m, h.0, h.1, sym same)
     by_case (Err f) got w = absurd cc
 
-pub tells_fault : (bytes text : List ℕ) (f : Fault) → IsBytes bytes → told text (packet_of bytes) ≡ Err f → first_fault bytes ≡ Some (located_at (length bytes) f)
+-- a fault and its place
+pub tells_fault : (bytes text : List ℕ) (f : Fault) → IsBytes bytes → told text (packet_of bytes) ≡ Err f
+    → (first_fault bytes ≡ Some (located_at (length bytes) f)) × ((located_at (length bytes) f).at ≤ length bytes)
 tells_fault bytes text f fits w = by_case (packet_of bytes) refl w
   where
-    by_case : (r : Result Message Fault) → packet_of bytes ≡ r → told text r ≡ Err f → first_fault bytes ≡ Some (located_at (length bytes) f)
+    by_case : (r : Result Message Fault) → packet_of bytes ≡ r → told text r ≡ Err f → (first_fault bytes ≡ Some (located_at (length bytes) f)) × ((located_at (length bytes) f).at ≤ length bytes)
     by_case (Ok m) got w = absurd cc
     by_case (Err g) got w =
         let same : g ≡ f = cc in
-        (answers bytes (Err (located_at (length bytes) f)) fits (sym (ap (located (length bytes)) (got ∙ ap (λ (x : Fault). Err x) same)))).err
+        let a = answers bytes (Err (located_at (length bytes) f)) fits (sym (ap (located (length bytes)) (got ∙ ap (λ (x : Fault). Err x) same))) in
+        (a.err, a.place)
 
 -- what was appended to a text is cut off again
 pub cut_off : (text out : List ℕ) → IsPrefix text out → take (length text) out ≡ text

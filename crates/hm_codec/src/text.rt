@@ -1,4 +1,4 @@
-ghost use Rattle.std.specs.Prelude.{◌≡◌, ◌++◌, IfOk, OnErr};
+ghost use Rattle.std.specs.Prelude.{◌≡◌, ◌≤◌, ◌++◌, length, IfOk, IfErr};
 ghost use Rattle.hm_base.specs.Lists.{IsPrefix};
 ghost use Rattle.hm_codec.specs.Reading.{Gives, packet_of};
 ghost use Rattle.hm_codec.specs.Worded.{told, Tells};
@@ -14,6 +14,7 @@ use hm_packet::text::write_ends;
 /// of them. After want of memory `out` begins with what it held.
 pub fn write_spelled(bytes: &[u8], out: &mut Vec<u8>) -> Result<Result<(), Malformed>, NoMemory>
     ensures tells { IfOk result (λ r. Tells r bytes.now out.old.items out.new.items) }
+    ensures place { IfOk result (λ r. IfErr r (λ m. m.at ≤ length bytes.now)) }
     ensures front { IsPrefix out.old.items out.new.items }
 {
     let len = out.len();
