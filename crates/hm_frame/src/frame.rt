@@ -1,6 +1,7 @@
-ghost use Rattle.std.specs.Prelude.{◌≡◌, ◌<◌, ◌≤◌, ◌↔◌, [], ◌++◌, None, Ok, Err, length, take, OnOk, OnErr, IfSome, IfNone};
+ghost use Rattle.std.specs.Prelude.{◌≡◌, ◌<◌, ◌≤◌, ◌↔◌, [], ◌++◌, None, Ok, Err, length, take, ◌+◌, OnOk, OnErr, IfOk, IfSome, IfNone};
 ghost use Rattle.std.specs.Int.{w16, to_be_bytes};
-ghost use Rattle.hm_frame.specs.Frames.{head_len, frame, payload_len, IsPart, IsAtFault, Answers};
+ghost use Rattle.hm_base.specs.Lists.{IsPrefix};
+ghost use Rattle.hm_frame.specs.Frames.{head_len, max_payload_len, frame, payload_len, IsPart, IsAtFault, Answers, HasFrame, Tells};
 ghost use Rattle.hm_codec.specs.declared.malformed.Malformed.{Malformed};
 
 use bytes::BytesMut;
