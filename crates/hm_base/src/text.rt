@@ -20,10 +20,15 @@ pub fn write_bytes(bytes: &[u8], out: &mut Vec<u8>) -> Result<(), NoMemory>
 }
 
 /// Appends a number in decimal.
+#[tactic(auto, using(std::proofs::lemmas::Fmt::decimal_digit))]
 pub fn write_number(number: u64, out: &mut Vec<u8>) -> Result<(), NoMemory>
     ensures ok { OnOk result (out.new.items ≡ out.old.items ++ decimal number) }
     ensures err { OnErr result (out.new.items ≡ out.old.items) }
 {
+    if number < 10 {
+        out.push(b'0' + number as u8)?;
+        return Ok(());
+    }
     let mut buffer = Buffer::new();
     write_bytes(buffer.format(number).as_bytes(), out)
 }
@@ -34,7 +39,7 @@ fn push_dotted(first: u64, second: u64, out: &mut Vec<u8>) -> Result<(), NoMemor
     ensures err { OnErr result (IsPrefix out.old.items out.new.items) }
 {
     write_number(first, out)?;
-    write_bytes(b".", out)?;
+    out.push(b'.')?;
     write_number(second, out)
 }
 

@@ -8,3 +8,4 @@ pub mod Lengths
 pub mod Decoded
 pub mod Writers
 pub mod Unread
+pub mod Told

@@ -3,3 +3,4 @@ pub mod Grammar
 pub mod Packets
 pub mod Reading
 pub mod Writing
+pub mod Worded

@@ -15,3 +15,5 @@ pub mod malformed;
 mod parts;
 #[cfg(test)]
 mod tests;
+pub mod text;
+mod words;

@@ -173,6 +173,12 @@ same_packets calls others held rest run also same stuck no_more =
 
 -- ---- taking one
 
+-- the bytes between the length and the end of a frame
+pub payload_of : (seen bytes : List ℕ) (len : ℕ) → seen ≡ bytes → take (head_len + len - head_len) (drop head_len seen) ≡ take len (drop head_len bytes)
+payload_of seen bytes len is =
+    let count : head_len + len - head_len ≡ len = omega arith in
+    ap (λ (n : ℕ). take n (drop head_len seen)) count ∙ ap (λ (l : List ℕ). take len (drop head_len l)) is
+
 -- bytes begin with a packet's frame, where their length and so many bytes behind it are its spelling
 pub takes_front : (bytes seen new : List ℕ) (m : Message) (len : ℕ) → seen ≡ bytes → to_be_bytes w16 len ≡ take head_len seen → HasSpelling m
     → head_len + len ≤ length seen → spelling m ≡ take len (drop head_len seen) → new ≡ drop (head_len + len) bytes → Takes m bytes new

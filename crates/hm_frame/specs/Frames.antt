@@ -1,7 +1,8 @@
 -- Frames: a length in two bytes, the higher one first, and so many bytes that spell one packet.
-use Rattle.std.specs.Prelude.{◌≡◌, ℕ, ◌+◌, ◌<◌, ◌≤◌, ◌⊎◌, List, [], ◌∷◌, ◌++◌, length, take, drop, Option, Some, None, Result, Ok, Err}
+use Rattle.std.specs.Prelude.{◌≡◌, ℕ, Bool, true, false, ◌+◌, ◌<◌, ◌≤◌, ◌⊎◌, List, [], ◌∷◌, ◌++◌, length, take, drop, Option, Some, None, Result, Ok, Err}
 use Rattle.std.specs.Int.{w16, to_be_bytes, from_be_bytes}
 use Rattle.hm_packet.specs.Messages.{Message}
+use Rattle.hm_packet.specs.Texts.{packet_text}
 use Rattle.hm_codec.specs.Packets.{spelling, first_fault, HasSpelling}
 use Rattle.hm_codec.specs.declared.malformed.Malformed.{Malformed}
 use Rattle.hm_codec.specs.declared.malformed.Reason.TheVariants.{Length}
@@ -64,6 +65,24 @@ abbrev pub Answers : Result (Option Message) Malformed → List ℕ → List ℕ
 Answers (Ok (Some m)) old new = Takes m old new
 Answers (Ok None) old new = IsPart old × (new ≡ old)
 Answers (Err fault) old new = IsAtFault old fault × (new ≡ old)
+
+-- the frame at the front, so many bytes behind its length, is there to its end
+pub record IsWhole (bytes : List ℕ) (len : ℕ) : Type 0 where
+  pub head : to_be_bytes w16 len ≡ take head_len bytes
+  pub len_is : len ≡ payload_len bytes
+  pub lawful : len ≤ max_payload_len
+  pub whole : head_len + len ≤ length bytes
+
+abbrev pub HasFrame : Result (Option ℕ) Malformed → List ℕ → Type 0
+HasFrame (Ok (Some len)) bytes = IsWhole bytes len
+HasFrame (Ok None) bytes = IsPart bytes
+HasFrame (Err fault) bytes = HasBadLength bytes fault
+
+-- what was answered of the first frame, what is held then, and what stands behind a text
+abbrev pub Tells : Result Bool Malformed → List ℕ → List ℕ → List ℕ → List ℕ → Type 0
+Tells (Ok true) old new text out = (m : Message) × Takes m old new × (out ≡ text ++ packet_text m)
+Tells (Ok false) old new text out = IsPart old × (new ≡ old) × (out ≡ text)
+Tells (Err fault) old new text out = IsAtFault old fault × (new ≡ old) × (out ≡ text)
 
 -- a call: bytes were fed, or the next packet was asked for
 pub data Call : Type 0 where

@@ -1,6 +1,7 @@
-ghost use Rattle.std.specs.Prelude.{◌≡◌, ◌<◌, ◌≤◌, ◌↔◌, [], ◌++◌, None, Ok, Err, length, take, OnOk, OnErr, IfSome, IfNone};
+ghost use Rattle.std.specs.Prelude.{◌≡◌, ◌<◌, ◌≤◌, ◌↔◌, [], ◌++◌, None, Ok, Err, length, take, ◌+◌, OnOk, OnErr, IfOk, IfSome, IfNone};
 ghost use Rattle.std.specs.Int.{w16, to_be_bytes};
-ghost use Rattle.hm_frame.specs.Frames.{head_len, frame, payload_len, IsPart, IsAtFault, Answers};
+ghost use Rattle.hm_base.specs.Lists.{IsPrefix};
+ghost use Rattle.hm_frame.specs.Frames.{head_len, max_payload_len, frame, payload_len, IsPart, IsAtFault, Answers, HasFrame, Tells};
 ghost use Rattle.hm_codec.specs.declared.malformed.Malformed.{Malformed};
 
 use bytes::BytesMut;
@@ -9,6 +10,7 @@ use hm_codec::buf::{Buf, MAX_LEN};
 use hm_codec::decode::decode;
 use hm_codec::encode::encode;
 use hm_codec::malformed::{Malformed, Reason};
+use hm_codec::text::write_spelled;
 use hm_packet::packet::Packet;
 use std::alloc::Global;
 use std::marker::Model;
@@ -75,6 +77,45 @@ impl Unframer {
         ensures none { (result ≡ Ok None) ↔ IsPart self.old }
         ensures fault { (fault : Malformed) → (result ≡ Err fault) ↔ IsAtFault self.old fault }
     {
+        let Some(len) = self.next_len()? else {
+            return Ok(None);
+        };
+        let end = HEAD_LEN + len;
+        match decode(&self.bytes.as_slice()[HEAD_LEN..end]) {
+            Ok(packet) => {
+                self.bytes.advance(end);
+                Ok(Some(packet))
+            }
+            Err(inner) => Err(behind_head(inner)),
+        }
+    }
+
+    /// Takes the next frame and appends its packet's text: false while the frame isn't there to its end. Faults are as those of
+    /// [`Unframer::next`], and then `out` is as it was. After want of memory `out` begins with what it held, and the frame is held.
+    pub fn next_text(&mut self, out: &mut Vec<u8>) -> Result<Result<bool, Malformed>, NoMemory>
+        ensures ok { IfOk result (λ r. Tells r self.old self.new out.old.items out.new.items) }
+        ensures err { OnErr result (self.new ≡ self.old) }
+        ensures front { IsPrefix out.old.items out.new.items }
+    {
+        let len = match self.next_len() {
+            Ok(Some(len)) => len,
+            Ok(None) => return Ok(Ok(false)),
+            Err(fault) => return Ok(Err(fault)),
+        };
+        let end = HEAD_LEN + len;
+        match write_spelled(&self.bytes.as_slice()[HEAD_LEN..end], out)? {
+            Ok(()) => {
+                self.bytes.advance(end);
+                Ok(Ok(true))
+            }
+            Err(inner) => Ok(Err(behind_head(inner))),
+        }
+    }
+
+    /// How many bytes the next frame has behind its length: None while it isn't there to its end.
+    fn next_len(&self) -> Result<Option<usize>, Malformed>
+        ensures { HasFrame result self.now }
+    {
         let held = self.bytes.as_slice();
         let Some(len) = payload_len(held) else {
             return Ok(None);
@@ -85,20 +126,11 @@ impl Unframer {
                 reason: Reason::Length,
             });
         }
-        let end = HEAD_LEN + len;
-        if held.len() < end {
-            return Ok(None);
-        }
-        match decode(&held[HEAD_LEN..end]) {
-            Ok(packet) => {
-                self.bytes.advance(end);
-                Ok(Some(packet))
-            }
-            Err(inner) => Err(Malformed {
-                at: inner.at + HEAD_LEN as u32,
-                reason: inner.reason,
-            }),
-        }
+        Ok(if held.len() < HEAD_LEN + len {
+            None
+        } else {
+            Some(len)
+        })
     }
 
     /// How many bytes are held.
@@ -106,6 +138,17 @@ impl Unframer {
         ensures { result ≡ length self.now }
     {
         self.bytes.len()
+    }
+}
+
+/// A payload's fault, with its place counted from the frame's first byte.
+fn behind_head(inner: Malformed) -> Malformed
+    requires { inner.at ≤ max_payload_len }
+    ensures { result ≡ record { at = inner.at + head_len; reason = inner.reason } }
+{
+    Malformed {
+        at: inner.at + HEAD_LEN as u32,
+        reason: inner.reason,
     }
 }
 

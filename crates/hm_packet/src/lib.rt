@@ -7,8 +7,10 @@ pub mod field;
 pub mod outcome;
 pub mod outs;
 pub mod packet;
+mod parts;
 pub mod route;
 #[cfg(test)]
 mod tests;
 pub mod text;
 pub mod turn;
+pub mod words;

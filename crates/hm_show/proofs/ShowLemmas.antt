@@ -46,6 +46,10 @@ takes_none held text count few = record {
   lines = sym (append-nil text);
 }
 
+-- a packet's line, as it is written
+pub line_written : (text number words : List ℕ) → ((((text ++ codes "packet ") ++ number) ++ 32 ∷ []) ++ words) ++ 10 ∷ [] ≡ text ++ (line_of (codes "packet" ∷ number ∷ words ∷ []) ++ [])
+line_written text number words = simp (append_assoc, append-nil)
+
 pub takes_more : (old mid new text out more : List ℕ) (before at after : ℕ) (m : Message) → TakesSome old mid before at text out → Takes m mid new
     → at < max_frames → after ≡ at + 1 → more ≡ out ++ packet_lines after (m ∷ []) → TakesSome old new before after text more
 takes_more old mid new text out more before at after m p taken few next lines =

@@ -1,18 +1,25 @@
 -- The steps of a show.
-use Rattle.std.specs.Prelude.{◌≡◌, ℕ, ◌+◌, ◌<◌, ◌≤◌, ◌⊎◌, List, [], ◌++◌, length, flat_map, Option, Some, None, Result, Ok, Err}
+use Rattle.std.specs.Prelude.{◌≡◌, ℕ, Bool, true, false, ◌+◌, ◌<◌, ◌≤◌, ◌⊎◌, List, [], ◌∷◌, ◌++◌, length, flat_map, Option, Some, None, Result, Ok, Err}
 use Rattle.std.specs.List.{AllByRecursion}
 use Rattle.std.specs.Io.KnownBytes.{Appends}
 use Rattle.hm_base.specs.Lists.{IsPrefix}
 use Rattle.hm_packet.specs.Messages.{Message}
+use Rattle.hm_codec.specs.declared.malformed.Malformed.{Malformed}
 use Rattle.hm_codec.specs.Packets.{HasSpelling}
 use Rattle.hm_frame.specs.Faults.{Rose}
-use Rattle.hm_frame.specs.Frames.{frame, IsPart, IsAtFault}
+use Rattle.hm_frame.specs.Frames.{frame, IsPart, IsAtFault, Takes}
 use Rattle.hm_rules.specs.RunText.{packet_lines}
 use Rattle.hm_show.specs.Shows.{max_frames, shown_of, closing_text}
 use Rattle.hm_show.specs.declared.show.Shown.{Shown}
 use Rattle.hm_show.specs.declared.show.Shown.TheVariants as shown
 use Rattle.hm_show.specs.declared.verdict.Verdict.{Verdict}
 use Rattle.hm_show.specs.declared.verdict.Verdict.TheVariants as verdict
+
+-- a packet was taken from the bytes held, and its line was written
+abbrev pub TakesLine : Result Bool Malformed → ℕ → List ℕ → List ℕ → List ℕ → List ℕ → Type 0
+TakesLine (Ok true) number old new text out = (m : Message) × Takes m old new × (out ≡ text ++ packet_lines number (m ∷ []))
+TakesLine (Ok false) number old new text out = IsPart old × (new ≡ old) × (out ≡ text)
+TakesLine (Err fault) number old new text out = IsAtFault old fault × (new ≡ old) × (out ≡ text)
 
 -- packets were taken from the bytes held, and their lines were written
 pub record TakesSome (old new : List ℕ) (before after : ℕ) (text out : List ℕ) : Type 0 where

@@ -7,7 +7,7 @@ ghost use Rattle.hm_frame.specs.Frames.{frame};
 ghost use Rattle.hm_show.specs.Shows.{max_frames, shown_of, Shows};
 ghost use Rattle.hm_show.specs.Steps.{TakesFrames, Closes, Puts};
 
-use crate::text::{write_closing, write_packet_line};
+use crate::text::{write_closing, write_next_line};
 use crate::verdict::{Verdict, verdict_at_end};
 use hm_base::memory::NoMemory;
 use hm_codec::malformed::Malformed;
@@ -96,15 +96,9 @@ fn write_frames(
     ensures { TakesFrames result unframer.old unframer.new count.old count.new text.old.items text.new.items }
 {
     while *count < MAX_FRAMES {
-        match unframer.next() {
-            Ok(Some(packet)) => {
-                *count += 1;
-                match write_packet_line(*count, &packet, text) {
-                    Ok(()) => {}
-                    Err(failed) => return Err(failed),
-                }
-            }
-            Ok(None) => return Ok(None),
+        match write_next_line(unframer, *count + 1, text)? {
+            Ok(true) => *count += 1,
+            Ok(false) => return Ok(None),
             Err(fault) => return Ok(Some(Verdict::Bad(fault))),
         }
     }

@@ -1,24 +1,35 @@
-ghost use Rattle.std.specs.Prelude.{◌≡◌, ◌≤◌, [], ◌∷◌, ◌++◌, OnOk};
+ghost use Rattle.std.specs.Prelude.{◌≡◌, ◌≤◌, [], ◌∷◌, ◌++◌, OnOk, IfOk};
 ghost use Rattle.hm_rules.specs.RunText.{packet_lines, too_long_text};
+ghost use Rattle.hm_show.specs.Steps.{TakesLine};
 ghost use Rattle.hm_show.specs.Shows.{max_frames, reason_text, end_text, bad_frame_text, closing_text};
 
 use crate::verdict::Verdict;
 use hm_base::memory::NoMemory;
 use hm_base::text::{write_bytes, write_number};
 use hm_codec::malformed::{Malformed, Reason};
-use hm_packet::packet::Packet;
-use hm_packet::text::write_packet;
+use hm_frame::frame::Unframer;
 
-/// Appends a packet's line: its number, counted from 1, and its text. After want of memory `out` may hold a part of it, here and
-/// in the other calls of this module.
-pub fn write_packet_line(number: u32, packet: &Packet, out: &mut Vec<u8>) -> Result<(), NoMemory>
-    ensures { OnOk result (out.new.items ≡ out.old.items ++ packet_lines number (packet.now ∷ [])) }
+/// Takes the next frame and appends its packet's line: its number, counted from 1, and the packet's text. False while the frame
+/// isn't there to its end; then, and where it is at fault, `out` is as it was. After want of memory `out` may hold a part of what
+/// was to be appended, here and in the other calls of this module.
+pub fn write_next_line(
+    unframer: &mut Unframer,
+    number: u32,
+    out: &mut Vec<u8>,
+) -> Result<Result<bool, Malformed>, NoMemory>
+    ensures { IfOk result (λ r. TakesLine r number unframer.old unframer.new out.old.items out.new.items) }
 {
+    let len = out.len();
     write_bytes(b"packet ", out)?;
     write_number(u64::from(number), out)?;
-    write_bytes(b" ", out)?;
-    write_packet(packet, out)?;
-    write_bytes(b"\n", out)
+    out.push(b' ')?;
+    let taken = unframer.next_text(out)?;
+    if let Ok(true) = taken {
+        out.push(b'\n')?;
+    } else {
+        out.truncate(len);
+    }
+    Ok(taken)
 }
 
 /// Appends the last line where the input was frames to its end: how many.

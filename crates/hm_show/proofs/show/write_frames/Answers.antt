@@ -7,5 +7,5 @@ loop-count-init c = takes_none _ _ _ c.requires
 
 pub loop-count-preserved : goal.loop-count-preserved
 loop-count-preserved c =
-    let taken = rw c.in-Ok-Some.field-0-is at c.in-Ok-Some.ensures.answer in
-    takes_more _ _ _ _ _ _ _ _ _ _ c.loop-count.invariant taken c.loop-count-test.true refl c.in-Ok.ensures
+    let line = rw c.in-Ok-true.field-0-test at (rw c.in-Ok-true.is at c.in_ok-write_next_line.ensures) in
+    takes_more _ _ _ _ _ _ _ _ _ line.0 c.loop-count.invariant line.1 c.loop-count-test.true refl line.2

@@ -1,0 +1,21 @@
+-- What is read as text: behind a text, the words of a body, or a packet's text.
+use Rattle.std.specs.Prelude.{◌≡◌, ℕ, List, ◌++◌, Result, Ok, Err, Some}
+use Rattle.hm_base.specs.Spellings.{spaced}
+use Rattle.hm_packet.specs.declared.body.Body.{Body}
+use Rattle.hm_packet.specs.Messages.{Message}
+use Rattle.hm_packet.specs.Texts.{body_words, packet_text}
+use Rattle.hm_codec.specs.declared.fault.Fault.{Fault}
+use Rattle.hm_codec.specs.declared.malformed.Malformed.{Malformed}
+use Rattle.hm_codec.specs.Packets.{spelling, first_fault, HasSpelling}
+use Rattle.hm_codec.specs.Reading.{◌>>=◌, Part}
+
+abbrev pub worded : List ℕ → Part Body → Part (List ℕ)
+worded text read = read >>= λ b. Ok (text ++ spaced (body_words b.0), b.1)
+
+abbrev pub told : List ℕ → Result Message Fault → Result (List ℕ) Fault
+told text read = read >>= λ m. Ok (text ++ packet_text m)
+
+-- the text of the packet that the bytes spell stands behind the text, or their first fault was found
+abbrev pub Tells : {A : Type 0} → Result A Malformed → List ℕ → List ℕ → List ℕ → Type 0
+Tells (Ok x) bytes text out = (m : Message) × HasSpelling m × (spelling m ≡ bytes) × (out ≡ text ++ packet_text m)
+Tells (Err fault) bytes text out = (first_fault bytes ≡ Some fault) × (out ≡ text)
