@@ -118,11 +118,11 @@ impl State {
     {
         self.make_room()?;
         self.begin();
-        Ok(self.take(event))
+        Ok(self.take(event, acted))
     }
 
     /// What an event does once there is room for it.
-    fn take(&mut self, event: &Event) -> Outcome
+    fn take(&mut self, event: &Event, acted: &mut Acted) -> Outcome
         requires { IsBegun self.old }
         ensures world { slotted_of self.new ≡ slot_step (slotted_of self.old) (event_of event.now) }
         ensures outcome { result ≡ (slot_happens (slotted_of self.old) (event_of event.now)).outcome }
