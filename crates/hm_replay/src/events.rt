@@ -44,7 +44,7 @@ fn write_sent_from(world: &World, before: u32, text: &mut Vec<u8>) -> Result<(),
 {
     for i in before..world.sent_count() {
         if let Some(packet) = world.sent(i + 1) {
-            write_sent(i + 1, &packet, text)?;
+            write_sent(i + 1, packet, text)?;
         }
     }
     Ok(())

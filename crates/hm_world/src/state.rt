@@ -172,13 +172,13 @@ impl State {
     }
 
     /// The packet of this number, from 1. None exactly where no packet of this number was sent.
-    pub(crate) fn sent(&self, i: u32) -> Option<Packet>
-        ensures { result ≡ rule.sent_at self.now.world i }
+    pub(crate) fn sent(&self, i: u32) -> Option<&Packet>
+        ensures { option_copied result ≡ rule.sent_at self.now.world i }
     {
         if i == 0 {
             return None;
         }
-        packet_at(&self.net, i - 1)
+        self.net.get(i as usize - 1)
     }
 
     /// The history of the clients' operations.
@@ -284,7 +284,10 @@ impl State {
     {
         match self.sent(number) {
             None => Outcome::NotAllowed(Bar::NoPacket),
-            Some(packet) => self.deliver(&packet, acted),
+            Some(packet) => {
+                let packet = packet.copy();
+                self.deliver(&packet, acted)
+            }
         }
     }
 

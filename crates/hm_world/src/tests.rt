@@ -48,7 +48,7 @@ fn write(client: u32, object: u32) -> Result<Event, Fail> {
 fn last_sent(alloc: Global, world: &World) -> Result<Vec<u8>, Fail> {
     let mut text = Vec::new(alloc);
     let packet = world.sent(world.sent_count()).ok_or("a packet")?;
-    write_packet(&packet, &mut text)?;
+    write_packet(packet, &mut text)?;
     Ok(text)
 }
 

@@ -84,8 +84,8 @@ impl World {
     }
 
     /// The packet of this number, from 1. None exactly where no packet of this number was sent.
-    pub fn sent(&self, i: u32) -> Option<Packet>
-        ensures { result ≡ rule.sent_at self.now.world i }
+    pub fn sent(&self, i: u32) -> Option<&Packet>
+        ensures { option_copied result ≡ rule.sent_at self.now.world i }
     {
         self.state.sent(i)
     }
