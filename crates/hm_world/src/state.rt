@@ -1,4 +1,4 @@
-ghost use Rattle.std.specs.Prelude.{◌≡◌, ◌<◌, ◌≤◌, ◌+◌, ◌*◌, ◌++◌, ◌∷◌, [], ℕ, false, length, Some, None, IfOk, OnOk, OnErr, slice_get, IsTrue, ◌↔◌, IfErr, ◌⊎◌, is_some};
+ghost use Rattle.std.specs.Prelude.{option_copied, ◌≡◌, ◌<◌, ◌≤◌, ◌+◌, ◌*◌, ◌++◌, ◌∷◌, [], ℕ, false, length, Some, None, IfOk, OnOk, OnErr, slice_get, IsTrue, ◌↔◌, IfErr, ◌⊎◌, is_some};
 ghost use Rattle.hm_base.specs.declared.node.GroupKind.TheVariants as kind;
 ghost use Rattle.hm_packet.specs.Messages.{Message};
 ghost use Rattle.hm_packet.specs.Steps.{max_outs};

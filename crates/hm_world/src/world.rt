@@ -1,4 +1,4 @@
-ghost use Rattle.std.specs.Prelude.{◌≡◌, ◌<◌, ◌≤◌, ◌+◌, ◌⊎◌, ℕ, length, Some, None, IfOk, IfErr, OnOk, OnErr};
+ghost use Rattle.std.specs.Prelude.{option_copied, ◌≡◌, ◌<◌, ◌≤◌, ◌+◌, ◌⊎◌, ℕ, length, Some, None, IfOk, IfErr, OnOk, OnErr};
 ghost use Rattle.hm_rules.specs.World as rule;
 ghost use Rattle.hm_rules.specs.Runs.{slotted};
 ghost use Rattle.hm_refusal_laws.specs.Slotting.{slot_happens, slot_step};
