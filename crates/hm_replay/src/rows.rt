@@ -438,8 +438,39 @@ end
 ",
 };
 
+/// Most of the reasons for which an event isn't allowed.
+const BARS: Row = Row {
+    schedule: b"group chain 1
+remove 0
+stop 0
+remove 0
+tick 0
+deliver 1
+stop 6
+resend 7 1
+read 7 1 2
+write 7 1 61 1
+write 7 1 61 1
+",
+    text: b"event 1 barred Live
+event 2 ok
+event 3 barred Last
+event 4 barred Stopped
+event 5 barred NoPacket
+event 6 barred Member
+event 7 barred Idle
+event 8 barred NoSwitch
+event 9 ok
+invoke 7.1
+packet 1 c7 s1 write 1 1 61
+event 10 barred Busy
+order 0
+end
+",
+};
+
 /// All of them.
-pub const ROWS: [Row; 11] = [
+pub const ROWS: [Row; 12] = [
     CHAIN_PUT_REPEATED,
     CHAIN_WRITE_UNDER_TWO_NUMBERS,
     CHAIN_OBJECT_STILL_DIRTY,
@@ -451,4 +482,5 @@ pub const ROWS: [Row; 11] = [
     CHAIN_STAMPED_READ_BEHIND_A_WRITE,
     CHAIN_REMOVE_TAIL,
     CHAIN_PAGE_OF_AN_OLD_EPOCH,
+    BARS,
 ];
