@@ -117,37 +117,15 @@ fn bars_come_in_order(rt: HostRuntime) -> Result<(), Fail> {
 }
 
 #[test]
-fn a_full_table_refuses_writes_until_one_is_completed(rt: HostRuntime) -> Result<(), Fail> {
-    let alloc = rt.alloc();
+fn a_full_table_refuses_a_write(rt: HostRuntime) -> Result<(), Fail> {
     let mut setup = ONE;
     setup.stages = 1;
     setup.bits = 0;
-    let mut world = World::open(alloc, &setup)?;
+    let mut world = World::open(rt.alloc(), &setup)?;
     world.event(&write(7, 5)?)?;
     world.event(&write(8, 6)?)?;
     world.event(&Event::Next)?;
     assert_eq!(rt; world.event(&Event::Next)?, Outcome::Full);
-    for _ in 0..2u32 {
-        world.event(&Event::Next)?;
-    }
-    world.event(&write(9, 6)?)?;
-    for _ in 0..2u32 {
-        world.event(&Event::Next)?;
-    }
-    let text = last_sent(alloc, &world)?;
-    assert_eq!(rt; text.as_slice(), b"s1 r0 put 1.2 9 1 6 61".as_slice());
-    Ok(())
-}
-
-#[test]
-fn a_switch_is_spent_at_the_end_of_its_life(rt: HostRuntime) -> Result<(), Fail> {
-    let mut setup = ONE;
-    setup.life = 1;
-    let mut world = World::open(rt.alloc(), &setup)?;
-    world.event(&READ)?;
-    world.event(&write(7, 5)?)?;
-    world.event(&Event::Next)?;
-    assert_eq!(rt; world.event(&Event::Next)?, Outcome::Spent);
     Ok(())
 }
 
