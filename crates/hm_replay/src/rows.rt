@@ -438,6 +438,53 @@ end
 ",
 };
 
+/// A request that is sent again, a packet that is lost and one that comes again, and a replica that ticks and stops.
+const CHAIN_LOST_AND_REPEATED: Row = Row {
+    schedule: b"group chain 1
+write 7 5 61 1
+resend 7 1
+deliver 1
+deliver 2
+deliver 3
+drop
+tick 0
+deliver 3
+read 8 5 1
+stop 0
+deliver 3
+deliver 7
+tick 0
+",
+    text: b"event 1 ok
+invoke 7.1
+packet 1 c7 s1 write 1 5 61
+event 2 ok
+packet 2 c7 s1 write 1 5 61
+event 3 ok
+packet 3 s1 r0 put 1.1 7 1 5 61
+event 4 ok
+packet 4 s1 r0 put 1.2 7 1 5 61
+event 5 ok
+commit 7.1 1.1
+packet 5 r0 s1 done 1.1 7 1
+event 6 ok
+event 7 ok
+packet 6 r0 s1 done 1.1 7 1
+event 8 ignored Order
+event 9 ok
+invoke 8.1
+packet 7 c8 s1 read 1 5
+event 10 ok
+event 11 ignored Gone
+event 12 ok
+packet 8 s1 r0 normalread 8 1 5
+event 13 barred Stopped
+order 1
+place 7.1
+end
+",
+};
+
 /// Most of the reasons for which an event isn't allowed.
 const BARS: Row = Row {
     schedule: b"group chain 1
@@ -470,7 +517,7 @@ end
 };
 
 /// All of them.
-pub const ROWS: [Row; 12] = [
+pub const ROWS: [Row; 13] = [
     CHAIN_PUT_REPEATED,
     CHAIN_WRITE_UNDER_TWO_NUMBERS,
     CHAIN_OBJECT_STILL_DIRTY,
@@ -482,5 +529,6 @@ pub const ROWS: [Row; 12] = [
     CHAIN_STAMPED_READ_BEHIND_A_WRITE,
     CHAIN_REMOVE_TAIL,
     CHAIN_PAGE_OF_AN_OLD_EPOCH,
+    CHAIN_LOST_AND_REPEATED,
     BARS,
 ];
