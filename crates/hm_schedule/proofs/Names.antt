@@ -68,11 +68,11 @@ module _ (word : List ℕ) (k : Keyword) where
 
   pub spells : Spells (named word)
   spells =
-      one_of (codes "write") keyword.Write (bytes_eq word (codes "write")) _ refl refl
+      one_of (codes "next") keyword.Next (bytes_eq word (codes "next")) _ refl refl
+      (one_of (codes "write") keyword.Write (bytes_eq word (codes "write")) _ refl refl
       (one_of (codes "read") keyword.Read (bytes_eq word (codes "read")) _ refl refl
       (one_of (codes "resend") keyword.Resend (bytes_eq word (codes "resend")) _ refl refl
       (one_of (codes "deliver") keyword.Deliver (bytes_eq word (codes "deliver")) _ refl refl
-      (one_of (codes "next") keyword.Next (bytes_eq word (codes "next")) _ refl refl
       (one_of (codes "drop") keyword.Drop (bytes_eq word (codes "drop")) _ refl refl spells_rarely)))))
 
 -- ---- keywords are words

@@ -32,10 +32,10 @@ rarely_named word =
 -- the keyword that is this word
 abbrev pub named : List ℕ → Option Keyword
 named word =
-    if bytes_eq word (codes "write") then Some keyword.Write
+    if bytes_eq word (codes "next") then Some keyword.Next
+    else if bytes_eq word (codes "write") then Some keyword.Write
     else if bytes_eq word (codes "read") then Some keyword.Read
     else if bytes_eq word (codes "resend") then Some keyword.Resend
     else if bytes_eq word (codes "deliver") then Some keyword.Deliver
-    else if bytes_eq word (codes "next") then Some keyword.Next
     else if bytes_eq word (codes "drop") then Some keyword.Drop
     else rarely_named word

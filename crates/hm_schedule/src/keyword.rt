@@ -19,11 +19,13 @@ pub enum Keyword {
     Remove,
 }
 
-/// The keyword that a word is. None exactly for any other word.
+/// The keyword that a word is. None exactly for any other word. Most lines of a schedule are the word that is compared first.
 pub(crate) fn keyword_of(word: &[u8]) -> Option<Keyword>
     ensures { result ≡ named word.now }
 {
-    if word == b"write".as_slice() {
+    if word == b"next".as_slice() {
+        Some(Keyword::Next)
+    } else if word == b"write".as_slice() {
         Some(Keyword::Write)
     } else if word == b"read".as_slice() {
         Some(Keyword::Read)
@@ -31,8 +33,6 @@ pub(crate) fn keyword_of(word: &[u8]) -> Option<Keyword>
         Some(Keyword::Resend)
     } else if word == b"deliver".as_slice() {
         Some(Keyword::Deliver)
-    } else if word == b"next".as_slice() {
-        Some(Keyword::Next)
     } else if word == b"drop".as_slice() {
         Some(Keyword::Drop)
     } else {
