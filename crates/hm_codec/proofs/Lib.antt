@@ -9,3 +9,4 @@ pub mod Decoded
 pub mod Writers
 pub mod Unread
 pub mod Told
+pub mod PageWords

@@ -32,6 +32,7 @@ use Rattle.hm_packet.specs.declared.body.Body.{Body}
 use Rattle.hm_packet.specs.declared.body.Body.TheVariants as body
 use Rattle.hm_packet.specs.Routing.{Routing}
 use Rattle.hm_packet.specs.Messages.{Message}
+use Rattle.hm_codec.specs.declared.bodies.FeedFields.{FeedFields}
 use Rattle.hm_codec.specs.declared.fault.Fault.{Fault}
 use Rattle.hm_codec.specs.declared.head.Head.{Head}
 use Rattle.hm_codec.specs.declared.malformed.Malformed.{Malformed}
@@ -214,6 +215,15 @@ feed_at bytes = do
   commit ← number_at U32 first.1
   entries ← entries_at commit.1
   Ok (record { view = view.0; start = start.0; first = first.0; commit = commit.0; entries = entries.0 }, entries.1)
+
+-- what a feed has before its entries
+unfoldable pub feed_head_at : List ℕ → Part FeedFields
+feed_head_at bytes = do
+  view ← number_at U32 bytes
+  start ← number_at U32 view.1
+  first ← number_at U32 start.1
+  commit ← number_at U32 first.1
+  Ok (record { view = view.0; start = start.0; first = first.0; commit = commit.0 }, commit.1)
 
 unfoldable pub feed_ack_at : List ℕ → Part FeedAck
 feed_ack_at bytes = do

@@ -1,9 +1,11 @@
 -- What is read as text: behind a text, the words of a body, or a packet's text.
-use Rattle.std.specs.Prelude.{◌≡◌, ℕ, List, ◌++◌, Result, Ok, Err, Some}
-use Rattle.hm_base.specs.Spellings.{spaced}
+use Rattle.std.specs.Prelude.{◌≡◌, ℕ, List, [], ◌∷◌, ◌++◌, Result, Ok, Err, Some, codes, decimal, flat_map}
+use Rattle.hm_base.specs.Spellings.{spaced, entry_words, entries_words}
+use Rattle.hm_base.specs.declared.entry.Entry.{Entry}
 use Rattle.hm_packet.specs.declared.body.Body.{Body}
 use Rattle.hm_packet.specs.Messages.{Message}
 use Rattle.hm_packet.specs.Texts.{body_words, packet_text}
+use Rattle.hm_codec.specs.declared.bodies.FeedFields.{FeedFields}
 use Rattle.hm_codec.specs.declared.fault.Fault.{Fault}
 use Rattle.hm_codec.specs.declared.malformed.Malformed.{Malformed}
 use Rattle.hm_codec.specs.Packets.{spelling, first_fault, HasSpelling}
@@ -11,6 +13,20 @@ use Rattle.hm_codec.specs.Reading.{◌>>=◌, Part}
 
 abbrev pub worded : List ℕ → Part Body → Part (List ℕ)
 worded text read = read >>= λ b. Ok (text ++ spaced (body_words b.0), b.1)
+
+abbrev pub entry_worded : List ℕ → Part Entry → Part (List ℕ)
+entry_worded text read = read >>= λ e. Ok (text ++ spaced (entry_words e.0), e.1)
+
+-- entries without their number
+abbrev pub many_worded : List ℕ → Part (List Entry) → Part (List ℕ)
+many_worded text read = read >>= λ es. Ok (text ++ spaced (flat_map entry_words es.0), es.1)
+
+abbrev pub entries_worded : List ℕ → Part (List Entry) → Part (List ℕ)
+entries_worded text read = read >>= λ es. Ok (text ++ spaced (entries_words es.0), es.1)
+
+-- the words of a feed before its entries
+abbrev pub feed_head_words : FeedFields → List (List ℕ)
+feed_head_words h = codes "feed" ∷ decimal h.view ∷ decimal h.start ∷ decimal h.first ∷ decimal h.commit ∷ []
 
 abbrev pub told : List ℕ → Result Message Fault → Result (List ℕ) Fault
 told text read = read >>= λ m. Ok (text ++ packet_text m)

@@ -12,6 +12,7 @@ mod kinds;
 pub mod laws;
 mod lists;
 pub mod malformed;
+mod pages;
 mod parts;
 #[cfg(test)]
 mod tests;

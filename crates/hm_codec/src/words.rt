@@ -6,16 +6,17 @@ ghost use Rattle.hm_codec.specs.Reading.{Gives, as_body};
 ghost use Rattle.hm_codec.specs.Worded.{worded};
 
 use crate::bodies::{
-    ask_at, config_at, done_at, fast_read_at, feed_ack_at, feed_at, known_at, normal_read_at,
-    page_at, pull_at, put_at, read_at, refuse_at, refused_at, reply_at, route_at,
-    start_view_change_at, vote_at, write_at,
+    ask_at, config_at, done_at, fast_read_at, feed_ack_at, known_at, normal_read_at, page_at,
+    pull_at, put_at, read_at, refuse_at, refused_at, reply_at, route_at, start_view_change_at,
+    vote_at, write_at,
 };
 use crate::fault::Fault;
+use crate::pages::{entries_words, feed_head_at, push_feed_head};
 use hm_base::entries::Entries;
 use hm_base::memory::NoMemory;
-use hm_packet::body::{Feed, Page};
+use hm_packet::body::Page;
 use hm_packet::words::{
-    write_ask, write_config, write_done, write_fast_read, write_feed, write_feed_ack, write_known,
+    write_ask, write_config, write_done, write_fast_read, write_feed_ack, write_known,
     write_normal_read, write_page, write_pull, write_put, write_read, write_refuse, write_refused,
     write_reply, write_route, write_start_view_change, write_vote, write_write,
 };
@@ -138,21 +139,13 @@ fn feed_words<'a>(bytes: &'a [u8], out: &mut Vec<u8>) -> Result<Result<&'a [u8],
     ensures words { IfOk result (λ r. Gives (λ rest. (out.new.items, rest.now)) r (worded out.old.items (as_body (λ b. body.Feed b) (reading.feed_at bytes.now)))) }
     ensures front { IsPrefix out.old.items out.new.items }
 {
-    let mut entries = Entries::new();
-    words!(
-        feed_at(bytes, &mut entries),
-        fields,
-        write_feed(
-            &Feed {
-                view: fields.view,
-                start: fields.start,
-                first: fields.first,
-                commit: fields.commit,
-                entries
-            },
-            out
-        )
-    )
+    match feed_head_at(bytes) {
+        Ok((fields, rest)) => {
+            push_feed_head(&fields, out)?;
+            entries_words(rest, out)
+        }
+        Err(fault) => Ok(Err(fault)),
+    }
 }
 
 /// Reads how long a list is held, and appends its words.
