@@ -3,18 +3,64 @@ use Rattle.std.proofs.Common.{◌≡◌, ℕ, zero, suc, ◌+◌, ◌-◌, ◌<�
 use Rattle.std.specs.Prelude.{flat_map, decimal}
 use Rattle.std.proofs.lemmas.List.{append-nil}
 use Rattle.hm_base.specs.Logs.{max_page_len}
-use Rattle.hm_base.specs.Spellings.{spaced, entry_words, entries_words}
+use Rattle.hm_base.specs.Spellings.{spaced, act_text, entry_words, entries_words}
 use Rattle.hm_base.specs.declared.entry.Entry.{Entry}
+use Rattle.hm_base.specs.declared.entry.Act.{Act}
+use Rattle.hm_base.specs.declared.stamp.Stamp.{Stamp}
 use Rattle.hm_packet.specs.declared.body.Body.TheVariants as body
 use Rattle.hm_packet.specs.declared.body.Feed.{Feed}
 use Rattle.hm_packet.proofs.SpacedWords.{spaced_append}
 use Rattle.hm_codec.specs.declared.bodies.FeedFields.{FeedFields}
 use Rattle.hm_codec.specs.declared.fault.Fault.{Fault}
+use Rattle.hm_codec.specs.declared.pages.EntryHead.{EntryHead}
 use Rattle.hm_codec.specs.declared.malformed.Reason.TheVariants as reason
-use Rattle.hm_codec.specs.Grammar.Size.{U8, U32}
+use Rattle.hm_codec.specs.Grammar.Size.{U8, U32, U64}
 use Rattle.hm_codec.specs.Packets.{is_within}
-use Rattle.hm_codec.specs.Reading.{◌>>=◌, Part, field_at, number_at, entry_at, many_at, entries_at, feed_at, feed_head_at, as_body}
-use Rattle.hm_codec.specs.Worded.{worded, entry_worded, many_worded, entries_worded, feed_head_words}
+use Rattle.hm_codec.specs.Reading.{◌>>=◌, Part, field_at, number_at, stamp_at, act_at, entry_at, entry_head_at, many_at, entries_at, feed_at, feed_head_at, as_body}
+use Rattle.hm_codec.specs.Worded.{worded, act_worded, entry_worded, entry_head_words, many_worded, entries_worded, feed_head_words}
+
+-- ---- an entry
+
+abbrev entry_of : EntryHead × List ℕ → Part Entry
+entry_of h = act_at h.1 >>= λ a. Ok (record { stamp = h.0.stamp; client = h.0.client; request = h.0.request; object = h.0.object; act = a.0 }, a.1)
+
+by_object : (stamp : Stamp × List ℕ) (client : ℕ × List ℕ) (request : ℕ × List ℕ) (r : Part ℕ) → (r >>= λ object. act_at object.1 >>= λ act. Ok (record { stamp = stamp.0; client = client.0; request = request.0; object = object.0; act = act.0 }, act.1)) ≡ ((r >>= λ object. Ok (record { stamp = stamp.0; client = client.0; request = request.0; object = object.0 }, object.1)) >>= entry_of)
+by_object stamp client request (Ok object) = refl
+by_object stamp client request (Err f) = refl
+
+by_request : (stamp : Stamp × List ℕ) (client : ℕ × List ℕ) (r : Part ℕ) → (r >>= λ request. number_at U32 request.1 >>= λ object. act_at object.1 >>= λ act. Ok (record { stamp = stamp.0; client = client.0; request = request.0; object = object.0; act = act.0 }, act.1)) ≡ ((r >>= λ request. number_at U32 request.1 >>= λ object. Ok (record { stamp = stamp.0; client = client.0; request = request.0; object = object.0 }, object.1)) >>= entry_of)
+by_request stamp client (Ok request) = by_object stamp client request (number_at U32 request.1)
+by_request stamp client (Err f) = refl
+
+by_client : (stamp : Stamp × List ℕ) (r : Part ℕ) → (r >>= λ client. number_at U64 client.1 >>= λ request. number_at U32 request.1 >>= λ object. act_at object.1 >>= λ act. Ok (record { stamp = stamp.0; client = client.0; request = request.0; object = object.0; act = act.0 }, act.1)) ≡ ((r >>= λ client. number_at U64 client.1 >>= λ request. number_at U32 request.1 >>= λ object. Ok (record { stamp = stamp.0; client = client.0; request = request.0; object = object.0 }, object.1)) >>= entry_of)
+by_client stamp (Ok client) = by_request stamp client (number_at U64 client.1)
+by_client stamp (Err f) = refl
+
+by_stamp : (r : Part Stamp) → (r >>= λ stamp. number_at U32 stamp.1 >>= λ client. number_at U64 client.1 >>= λ request. number_at U32 request.1 >>= λ object. act_at object.1 >>= λ act. Ok (record { stamp = stamp.0; client = client.0; request = request.0; object = object.0; act = act.0 }, act.1)) ≡ ((r >>= λ stamp. number_at U32 stamp.1 >>= λ client. number_at U64 client.1 >>= λ request. number_at U32 request.1 >>= λ object. Ok (record { stamp = stamp.0; client = client.0; request = request.0; object = object.0 }, object.1)) >>= entry_of)
+by_stamp (Ok stamp) = by_client stamp (number_at U32 stamp.1)
+by_stamp (Err f) = refl
+
+entry_by_head : (bytes : List ℕ) → entry_at bytes ≡ (entry_head_at bytes >>= entry_of)
+unfolding entry_at entry_head_at
+entry_by_head bytes = by_stamp (stamp_at bytes)
+
+pub entry_from_act : (text mid bytes rest : List ℕ) (h : EntryHead) → entry_head_at bytes ≡ Ok (h, rest) → mid ≡ text ++ spaced (entry_head_words h)
+    → act_worded mid (act_at rest) ≡ entry_worded text (entry_at bytes)
+entry_from_act text mid bytes rest h read is =
+    by_case (act_at rest) ∙ sym (ap (λ (q : Part Entry). entry_worded text q) (entry_by_head bytes ∙ ap (λ (q : Part EntryHead). q >>= entry_of) read))
+  where
+    by_case : (r : Part Act)
+        → act_worded mid r ≡ entry_worded text (r >>= λ a. Ok (record { stamp = h.stamp; client = h.client; request = h.request; object = h.object; act = a.0 }, a.1))
+    by_case (Ok x) =
+        ap (λ (l : List ℕ). Ok (l, x.1)) (
+        ap (λ (l : List ℕ). l ++ spaced (act_text x.0 ∷ [])) is
+        ∙ append_assoc text (spaced (entry_head_words h)) (spaced (act_text x.0 ∷ []))
+        ∙ ap (λ (l : List ℕ). text ++ l) (sym (spaced_append (entry_head_words h) (act_text x.0 ∷ [])))
+        )
+    by_case (Err f) = refl
+
+pub no_entry : (text bytes : List ℕ) (f : Fault) → entry_head_at bytes ≡ Err f → entry_worded text (entry_at bytes) ≡ Err f
+no_entry text bytes f read = ap (λ (q : Part Entry). entry_worded text q) (entry_by_head bytes ∙ ap (λ (q : Part EntryHead). q >>= entry_of) read)
 
 -- ---- entries one after the other
 

@@ -35,6 +35,7 @@ use Rattle.hm_packet.specs.Messages.{Message}
 use Rattle.hm_codec.specs.declared.bodies.FeedFields.{FeedFields}
 use Rattle.hm_codec.specs.declared.fault.Fault.{Fault}
 use Rattle.hm_codec.specs.declared.head.Head.{Head}
+use Rattle.hm_codec.specs.declared.pages.EntryHead.{EntryHead}
 use Rattle.hm_codec.specs.declared.malformed.Malformed.{Malformed}
 use Rattle.hm_codec.specs.declared.malformed.Reason.{Reason}
 use Rattle.hm_codec.specs.declared.malformed.Reason.TheVariants as reason
@@ -125,6 +126,15 @@ entry_at bytes = do
   object ← number_at U32 request.1
   act ← act_at object.1
   Ok (record { stamp = stamp.0; client = client.0; request = request.0; object = object.0; act = act.0 }, act.1)
+
+-- what an entry has before its act
+unfoldable pub entry_head_at : List ℕ → Part EntryHead
+entry_head_at bytes = do
+  stamp ← stamp_at bytes
+  client ← number_at U32 stamp.1
+  request ← number_at U64 client.1
+  object ← number_at U32 request.1
+  Ok (record { stamp = stamp.0; client = client.0; request = request.0; object = object.0 }, object.1)
 
 unfoldable pub many_at : ℕ → List ℕ → Part (List Entry)
 many_at zero bytes = Ok ([], bytes)

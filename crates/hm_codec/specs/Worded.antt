@@ -1,12 +1,14 @@
 -- What is read as text: behind a text, the words of a body, or a packet's text.
 use Rattle.std.specs.Prelude.{◌≡◌, ℕ, List, [], ◌∷◌, ◌++◌, Result, Ok, Err, Some, codes, decimal, flat_map}
-use Rattle.hm_base.specs.Spellings.{spaced, entry_words, entries_words}
+use Rattle.hm_base.specs.Spellings.{spaced, stamp_text, value_text, act_text, entry_words, entries_words}
 use Rattle.hm_base.specs.declared.entry.Entry.{Entry}
+use Rattle.hm_base.specs.declared.entry.Act.{Act}
 use Rattle.hm_packet.specs.declared.body.Body.{Body}
 use Rattle.hm_packet.specs.Messages.{Message}
 use Rattle.hm_packet.specs.Texts.{body_words, packet_text}
 use Rattle.hm_codec.specs.declared.bodies.FeedFields.{FeedFields}
 use Rattle.hm_codec.specs.declared.fault.Fault.{Fault}
+use Rattle.hm_codec.specs.declared.pages.EntryHead.{EntryHead}
 use Rattle.hm_codec.specs.declared.malformed.Malformed.{Malformed}
 use Rattle.hm_codec.specs.Packets.{spelling, first_fault, HasSpelling}
 use Rattle.hm_codec.specs.Reading.{◌>>=◌, Part}
@@ -16,6 +18,16 @@ worded text read = read >>= λ b. Ok (text ++ spaced (body_words b.0), b.1)
 
 abbrev pub entry_worded : List ℕ → Part Entry → Part (List ℕ)
 entry_worded text read = read >>= λ e. Ok (text ++ spaced (entry_words e.0), e.1)
+
+abbrev pub value_worded : List ℕ → Part (List ℕ) → Part (List ℕ)
+value_worded text read = read >>= λ v. Ok (text ++ spaced (value_text v.0 ∷ []), v.1)
+
+abbrev pub act_worded : List ℕ → Part Act → Part (List ℕ)
+act_worded text read = read >>= λ a. Ok (text ++ spaced (act_text a.0 ∷ []), a.1)
+
+-- the words of an entry before its act
+abbrev pub entry_head_words : EntryHead → List (List ℕ)
+entry_head_words h = stamp_text h.stamp ∷ decimal h.client ∷ decimal h.request ∷ decimal h.object ∷ []
 
 -- entries without their number
 abbrev pub many_worded : List ℕ → Part (List Entry) → Part (List ℕ)

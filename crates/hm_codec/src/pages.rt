@@ -1,20 +1,22 @@
 //! The words of a page's entries, each written as it is read: no page is made.
 
-ghost use Rattle.std.specs.Prelude.{◌≡◌, ◌∷◌, ◌++◌, [], IfOk, OnOk, OnErr, decimal};
+ghost use Rattle.std.specs.Prelude.{◌≡◌, ◌≤◌, ◌∷◌, ◌++◌, [], length, IfOk, OnOk, OnErr, decimal};
+ghost use Rattle.hm_base.specs.Padded.{max_value_len};
 ghost use Rattle.hm_base.specs.Lists.{IsPrefix};
-ghost use Rattle.hm_base.specs.Spellings.{spaced, entry_words};
+ghost use Rattle.hm_base.specs.Spellings.{spaced, value_text};
 ghost use Rattle.hm_codec.specs.Reading as reading;
 ghost use Rattle.hm_codec.specs.Reading.{Gives};
-ghost use Rattle.hm_codec.specs.Worded.{entry_worded, many_worded, entries_worded, feed_head_words};
+ghost use Rattle.hm_codec.specs.Worded.{value_worded, act_worded, entry_worded, many_worded, entries_worded, entry_head_words, feed_head_words};
 
 use crate::bodies::FeedFields;
 use crate::fault::Fault;
-use crate::fields::{u8_within, u32_at};
+use crate::fields::{u8_within, u32_at, u64_at};
 use crate::malformed::Reason;
-use crate::parts::entry_at;
-use hm_base::entry::Entry;
+use crate::parts::{stamp_at, value_bytes_at};
 use hm_base::memory::NoMemory;
-use hm_base::text::{write_act, write_bytes, write_number, write_stamp};
+use hm_base::stamp::Stamp;
+use hm_base::text::{write_bytes, write_number, write_stamp};
+use hm_base::value::MAX_VALUE_LEN;
 
 /// Reads the fields of a feed before its entries.
 #[tactic(auto, unfolding(crate::specs::Reading::feed_head_at))]
@@ -56,29 +58,103 @@ pub(crate) fn push_feed_head(fields: &FeedFields, out: &mut Vec<u8>) -> Result<(
     push_number(u64::from(fields.commit), out)
 }
 
-/// Appends an entry's words.
-fn push_entry(entry: &Entry, out: &mut Vec<u8>) -> Result<(), NoMemory>
-    ensures ok { OnOk result (out.new.items ≡ out.old.items ++ spaced (entry_words entry.now)) }
+/// The fields of an entry before its act.
+#[derive(Clone, Copy, Debug, PartialEq, Eq)]
+struct EntryHead {
+    stamp: Stamp,
+    client: u32,
+    request: u64,
+    object: u32,
+}
+
+/// Reads the fields of an entry before its act.
+#[tactic(auto, unfolding(crate::specs::Reading::entry_head_at))]
+#[inline]
+fn entry_head_at(bytes: &[u8]) -> Result<(EntryHead, &[u8]), Fault>
+    ensures { Gives (λ x. (x.0, x.1.now)) result (reading.entry_head_at bytes.now) }
+{
+    let (stamp, rest) = stamp_at(bytes)?;
+    let (client, rest) = u32_at(rest)?;
+    let (request, rest) = u64_at(rest)?;
+    let (object, rest) = u32_at(rest)?;
+    let head = EntryHead {
+        stamp,
+        client,
+        request,
+        object,
+    };
+    Ok((head, rest))
+}
+
+/// Appends the words of an entry before its act.
+fn push_entry_head(head: &EntryHead, out: &mut Vec<u8>) -> Result<(), NoMemory>
+    ensures ok { OnOk result (out.new.items ≡ out.old.items ++ spaced (entry_head_words head.now)) }
     ensures err { OnErr result (IsPrefix out.old.items out.new.items) }
 {
     out.push(b' ')?;
-    write_stamp(entry.stamp, out)?;
-    push_number(u64::from(entry.client), out)?;
-    push_number(entry.request, out)?;
-    push_number(u64::from(entry.object), out)?;
-    out.push(b' ')?;
-    write_act(&entry.act, out)
+    write_stamp(head.stamp, out)?;
+    push_number(u64::from(head.client), out)?;
+    push_number(head.request, out)?;
+    push_number(u64::from(head.object), out)
 }
 
-/// Reads an entry, and appends its words. Here and below, what is appended where a fault is found is a part of the words.
+/// Appends the word of a value of these bytes.
+fn push_value(bytes: &[u8], out: &mut Vec<u8>) -> Result<(), NoMemory>
+    requires { length bytes.now ≤ max_value_len }
+    ensures ok { OnOk result (out.new.items ≡ out.old.items ++ spaced (value_text bytes.now ∷ [])) }
+    ensures err { OnErr result (IsPrefix out.old.items out.new.items) }
+{
+    out.push(b' ')?;
+    if bytes.is_empty() {
+        return write_bytes(b"empty", out);
+    }
+    let mut room = [0; 2 * MAX_VALUE_LEN];
+    let digits = &mut room[..2 * bytes.len()];
+    let _ = hex::encode_to_slice(bytes, digits);
+    write_bytes(digits, out)
+}
+
+/// Reads a value, and appends its word. Here and below, what is appended where a fault is found is a part of the words.
+fn value_words<'a>(bytes: &'a [u8], out: &mut Vec<u8>) -> Result<Result<&'a [u8], Fault>, NoMemory>
+    ensures words { IfOk result (λ r. Gives (λ rest. (out.new.items, rest.now)) r (value_worded out.old.items (reading.value_at bytes.now))) }
+    ensures front { IsPrefix out.old.items out.new.items }
+{
+    match value_bytes_at(bytes) {
+        Ok((value, rest)) => {
+            push_value(value, out)?;
+            Ok(Ok(rest))
+        }
+        Err(fault) => Ok(Err(fault)),
+    }
+}
+
+/// Reads what an entry does, and appends its word.
+#[tactic(auto, unfolding(crate::specs::Reading::act_at))]
+fn act_words<'a>(bytes: &'a [u8], out: &mut Vec<u8>) -> Result<Result<&'a [u8], Fault>, NoMemory>
+    ensures words { IfOk result (λ r. Gives (λ rest. (out.new.items, rest.now)) r (act_worded out.old.items (reading.act_at bytes.now))) }
+    ensures front { IsPrefix out.old.items out.new.items }
+{
+    match u8_within(bytes, 0, 1, Reason::Range) {
+        Ok((tag, rest)) => match tag {
+            0 => value_words(rest, out),
+            _ => {
+                write_bytes(b" look", out)?;
+                Ok(Ok(rest))
+            }
+        },
+        Err(fault) => Ok(Err(fault)),
+    }
+}
+
+/// Reads an entry, and appends its words.
 fn entry_words<'a>(bytes: &'a [u8], out: &mut Vec<u8>) -> Result<Result<&'a [u8], Fault>, NoMemory>
     ensures words { IfOk result (λ r. Gives (λ rest. (out.new.items, rest.now)) r (entry_worded out.old.items (reading.entry_at bytes.now))) }
     ensures front { IsPrefix out.old.items out.new.items }
 {
-    match entry_at(bytes) {
-        Ok((entry, rest)) => {
-            push_entry(&entry, out)?;
-            Ok(Ok(rest))
+    match entry_head_at(bytes) {
+        Ok((head, rest)) => {
+            push_entry_head(&head, out)?;
+            act_words(rest, out)
         }
         Err(fault) => Ok(Err(fault)),
     }

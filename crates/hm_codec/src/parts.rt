@@ -1,4 +1,5 @@
-ghost use Rattle.std.specs.Prelude.{◌≡◌, IfOk};
+ghost use Rattle.std.specs.Prelude.{◌≡◌, ◌≤◌, length, IfOk};
+ghost use Rattle.hm_base.specs.Padded.{max_value_len};
 ghost use Rattle.hm_packet.specs.Messages.{IsLawfulNode};
 ghost use Rattle.hm_codec.specs.Reading as reading;
 ghost use Rattle.hm_codec.specs.Reading.{Gives};
@@ -51,18 +52,27 @@ pub(crate) fn stamp_at(bytes: &[u8]) -> Result<(Stamp, &[u8]), Fault>
     Ok((Stamp { switch, seq }, rest))
 }
 
-/// Reads a value: its length and its bytes.
+/// Reads a value's length and its bytes, which stay where they are.
 #[tactic(auto, unfolding(crate::specs::Reading::value_at, crate::specs::Reading::run_at))]
 #[inline]
-pub(crate) fn value_at(bytes: &[u8]) -> Result<(Value, &[u8]), Fault>
-    ensures { Gives (λ x. (x.0, x.1.now)) result (reading.value_at bytes.now) }
+pub(crate) fn value_bytes_at(bytes: &[u8]) -> Result<(&[u8], &[u8]), Fault>
+    ensures given { Gives (λ x. (x.0.now, x.1.now)) result (reading.value_at bytes.now) }
+    ensures fits { IfOk result (λ x. length x.0.now ≤ max_value_len) }
 {
     let (len, rest) = u8_within(bytes, 0, 64, Reason::Length)?;
     let len = len as usize;
     if rest.len() < len {
         return Err(SHORT);
     }
-    let (front, rest) = rest.split_at(len);
+    Ok(rest.split_at(len))
+}
+
+/// Reads a value.
+#[inline]
+pub(crate) fn value_at(bytes: &[u8]) -> Result<(Value, &[u8]), Fault>
+    ensures { Gives (λ x. (x.0, x.1.now)) result (reading.value_at bytes.now) }
+{
+    let (front, rest) = value_bytes_at(bytes)?;
     match Value::from_slice(front) {
         Some(value) => Ok((value, rest)),
         None => Err(SHORT),
