@@ -1,8 +1,7 @@
 -- Every event leaves a chain sound.
-use Rattle.std.proofs.Common.{◌≡◌, ℕ, ◌<◌, ◌≤◌, Bool, true, false, List, sym, ap, subst, ◌∙◌, inl, inr, arith}
+use Rattle.std.proofs.Common.{◌≡◌, ℕ, ◌≤◌, Bool, true, false, List, sym, ap, subst, ◌∙◌, inl, inr, arith}
 use Rattle.std.specs.Prelude.{slice_set}
 use Rattle.std.proofs.lemmas.Bool.{false≢true, eqb-true}
-use Rattle.std.proofs.lemmas.List.{length-set}
 use Rattle.std.proofs.lemmas.List.Elements.{All-append}
 use Rattle.hm_base.specs.declared.entry.Entry.{Entry}
 use Rattle.hm_base.specs.declared.node.GroupKind.{GroupKind}
@@ -24,10 +23,12 @@ use Rattle.hm_core_laws.specs.Packets.{Holds}
 use Rattle.hm_core_laws.specs.Changes.{Origin, IsStep, Change}
 use Rattle.hm_core_laws.specs.Owed.{declared_by, StepsSound}
 use Rattle.hm_core_laws.proofs.Changes.{changes}
+use Rattle.hm_core_laws.proofs.ListSteps.{set_at}
+use Rattle.hm_core_laws.proofs.EpochSteps.{epochs_stepped}
 use Rattle.hm_core_laws.proofs.CoreEvents.{core_happens}
 use Rattle.hm_chain_laws.specs.Chained.{MemberHolds, Fits, ChainHolds, IsSound}
-use Rattle.hm_chain_laws.proofs.Members.{last_greatest}
-use Rattle.hm_chain_laws.proofs.ChainParts.{set_at, Acts, MemberStep}
+use Rattle.hm_core_laws.proofs.Members.{last_greatest}
+use Rattle.hm_chain_laws.proofs.ChainParts.{Acts, MemberStep}
 use Rattle.hm_chain_laws.proofs.ChainReads.{ticks}
 use Rattle.hm_chain_laws.proofs.ChainRows.{arrives}
 use Rattle.hm_chain_laws.proofs.ChainLater.{LogsGrow, all_fit_later, member_later}
@@ -126,14 +127,7 @@ module _ (w : World) (sound : IsSound w) where
     after_step cursor = record {
       kind = chain.kind;
       epochs = chain.epochs;
-      groups = record {
-        rise = chain.groups.rise;
-        below = λ e members i at h. subst (λ (k : ℕ). i < k) (sym (length-set w.replicas n s.replica)) (chain.groups.below e members i at h);
-        fewer = chain.groups.fewer;
-        live = λ i r e members at live epoch. chain.groups.live i (grown.from i r at).0 e members (grown.from i r at).1 live epoch;
-        service = chain.groups.service;
-        count = chain.groups.count;
-      };
+      groups = epochs_stepped w chain.epochs chain.groups n s x.replica x.there cursor;
       members = member_after;
       packets = All-append (Fits chain.epochs replicas) w.net s.outs (all_fit_later (prefix_same chain.epochs) grown w.net chain.packets) given.packets;
       prefix = prefix_after;

@@ -1,11 +1,10 @@
 -- Parts of the steps of a chain's member: a replica in the middle of a step, the packets that it sends, and the two ways in which a
 -- step ends, with or without declaring the log.
-use Rattle.std.proofs.Common.{◌≡◌, ℕ, zero, suc, ◌<◌, ◌≤◌, ◌⊎◌, true, false, List, [], ◌∷◌, ◌++◌, length, take, drop, Option, Some, None, refl, sym, ap, subst, ◌∙◌, arith, inl, inr}
+use Rattle.std.proofs.Common.{◌≡◌, ℕ, ◌≤◌, ◌⊎◌, true, false, List, [], ◌∷◌, ◌++◌, length, take, drop, Option, Some, None, refl, sym, ap, subst, ◌∙◌, arith, inl, inr}
 use Rattle.std.specs.Prelude.{max, ◌-◌, nat_lt, IsTrue, slice_set, All}
-use Rattle.std.proofs.lemmas.Bool.{cond_both, both_ways, cases_lt, ltb-true, ltb-false}
+use Rattle.std.proofs.lemmas.Bool.{cond_both, both_ways, cases_lt, ltb-false}
 use Rattle.std.proofs.lemmas.List.{take_all, drop_all}
 use Rattle.std.proofs.lemmas.List.Elements.{All-nil, All-cons, All-append, All-take, All-drop, All-map}
-use Rattle.std.proofs.lemmas.Option.{none-some, same_Some}
 use Rattle.hm_base.specs.declared.entry.Entry.{Entry}
 use Rattle.hm_base.specs.declared.entry.Act.{Act}
 use Rattle.hm_base.specs.declared.entry.Act.TheVariants as act
@@ -23,7 +22,7 @@ use Rattle.hm_rules.specs.Senders.{replica_sends}
 use Rattle.hm_rules.specs.Replica.{Replica, len, acked_by}
 use Rattle.hm_rules.specs.ReplicaSteps.{Stepped, sends, sends_first, page_to, max_answered, answer_act, answer_entry, answers, declares}
 use Rattle.hm_rules.specs.Chain.{is_tail, successor, page_if_any, passes_on, chain_grew}
-use Rattle.hm_rules.specs.Declared.{declared_after, commits_since}
+use Rattle.hm_rules.specs.Declared.{commits_since}
 use Rattle.hm_rules.specs.World.{World, is_stopped}
 use Rattle.hm_core_laws.specs.Sourced.{IsSourced}
 use Rattle.hm_core_laws.specs.Packets.{Holds}
@@ -31,22 +30,13 @@ use Rattle.hm_core_laws.specs.Core.{ListHolds, Core}
 use Rattle.hm_core_laws.specs.Owed.{declared_by, StepSound}
 use Rattle.hm_core_laws.proofs.Sources.{all_sourced_later}
 use Rattle.hm_core_laws.proofs.CoreGrows.{agrees}
-use Rattle.hm_core_laws.proofs.StepParts.{quiet_sound, answers_hold, answers_sent, all_from_at}
+use Rattle.hm_core_laws.proofs.ListSteps.{set_at}
+use Rattle.hm_core_laws.proofs.StepParts.{nothing_declared, quiet_sound, answers_hold, answers_sent, all_from_at}
 use Rattle.hm_chain_laws.specs.Kept.{KeepsLog}
-use Rattle.hm_chain_laws.specs.Chained.{HasMember, MemberHolds, IsPageOf, Fits, ChainHolds}
+use Rattle.hm_core_laws.specs.Epochs.{HasMember}
+use Rattle.hm_chain_laws.specs.Chained.{MemberHolds, IsPageOf, Fits, ChainHolds}
 
 -- ---- lists
-
--- what stands in a list with one item replaced
-pub set_at : {A : Type 0} (xs : List A) (i j : ℕ) (v x : A) → At (slice_set xs i v) j x → ((i ≡ j) × (v ≡ x)) ⊎ ((i ≡ j → ⊥) × At xs j x)
-set_at [] i j v x a = absurd (none-some x a)
-set_at (y ∷ ys) zero zero v x a = inl (refl, same_Some v x a)
-set_at (y ∷ ys) zero (suc j) v x a = inr (λ (e : 0 ≡ suc j). omega arith, a)
-set_at (y ∷ ys) (suc i) zero v x a = inr (λ (e : suc i ≡ 0). omega arith, a)
-set_at (y ∷ ys) (suc i) (suc j) v x a = elim (set_at ys i j v x a) [
-  | inl new ↦ inl (ap suc new.0, new.1)
-  | inr old ↦ inr (λ (e : suc i ≡ suc j). old.0 (omega arith), old.1)
-]
 
 -- a page of the log is one of it
 pub page_of : (first : ℕ) (log : List Entry) → IsPageOf first (page log first) log
@@ -57,9 +47,6 @@ page_of first log = elim (cases_lt (length log) first) [
 
 pub page_later : (first : ℕ) (entries xs ys : List Entry) → IsPageOf first entries xs → IsPrefix xs ys → IsPageOf first entries ys
 page_later first entries xs ys x p = elim x [ inl none ↦ inl none | inr slice ↦ inr (slice_later slice p) ]
-
-nothing_declared : (k log : List Entry) → declared_after k log 0 ≡ k
-nothing_declared k log = cond_both (nat_lt (length k) 0) (take 0 log) k (λ (l : List Entry). l ≡ k) (λ t. absurd (let l : length k < 0 = ltb-true (length k) 0 t in omega arith)) (λ t. refl)
 
 -- ---- records of a step
 

@@ -1,8 +1,7 @@
 -- Answers of a chain's member: completions, reads, and what is asked of the tail.
-use Rattle.std.proofs.Common.{◌≡◌, ℕ, suc, ◌+◌, ◌⊎◌, max, true, List, [], ◌∷◌, Option, Some, None, refl, sym, ap, subst, ◌∙◌, inl, inr}
-use Rattle.std.specs.Prelude.{not, ◌==◌, fold, if◌then◌else◌, IsTrue, slice_get}
+use Rattle.std.proofs.Common.{◌≡◌, ℕ, ◌+◌, max, true, List, [], ◌∷◌, Option, Some, None, refl, sym, ap, subst, ◌∙◌}
+use Rattle.std.specs.Prelude.{not, ◌==◌, if◌then◌else◌, IsTrue, slice_get}
 use Rattle.std.proofs.lemmas.Bool.{cond_both, not-false, false≢true}
-use Rattle.std.proofs.lemmas.Option.{none-some}
 use Rattle.hm_base.specs.declared.stamp.Stamp.{Stamp}
 use Rattle.hm_base.specs.declared.entry.Entry.{Entry}
 use Rattle.hm_base.specs.declared.entry.Act.{Act}
@@ -35,20 +34,10 @@ use Rattle.hm_rules.specs.Chain.{is_tail, successor, passes_on, chain_again, cha
 use Rattle.hm_rules.specs.World.{World}
 use Rattle.hm_core_laws.specs.Sourced.{IsSourced}
 use Rattle.hm_core_laws.specs.Packets.{op, WasAsked, WasAskedToWrite}
+use Rattle.hm_core_laws.proofs.ListSteps.{last_stands}
 use Rattle.hm_chain_laws.specs.Chained.{MemberHolds}
 use Rattle.hm_chain_laws.proofs.LogGrowth.{kept_same}
 use Rattle.hm_chain_laws.proofs.ChainParts.{Acts, MemberStep, Becomes, Sends, sends_none, sends_one, passing, silently}
-
--- the last entry stands in the list
-last_from : (before : Option Entry) (log : List Entry) (e : Entry) → fold (λ (before : Option Entry) (e : Entry). Some e) before log ≡ Some e → (before ≡ Some e) ⊎ ((i : ℕ) × At log i e)
-last_from before [] e h = inl h
-last_from before (x ∷ log) e h = elim (last_from (Some x) log e h) [
-  | inl here ↦ inr (0, here)
-  | inr later ↦ inr (suc later.0, later.1)
-]
-
-last_stands : (log : List Entry) (e : Entry) → last_of log ≡ Some e → (i : ℕ) × At log i e
-last_stands log e h = elim (last_from None log e h) [ inl none ↦ absurd (none-some e none) | inr there ↦ there ]
 
 module _ (w : World) (n : ℕ) (r : Replica) (a : Acts w n r) where
   abbrev pub Fine : Stepped → Type 0

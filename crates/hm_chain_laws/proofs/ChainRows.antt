@@ -1,11 +1,11 @@
 -- The rows of a chain's step at a live member of a sound chain: a write at the head, a page from the member before, what was
 -- acknowledged, and a new epoch.
-use Rattle.std.proofs.Common.{◌≡◌, ℕ, zero, suc, ◌+◌, ◌-◌, ◌<◌, ◌≤◌, true, List, [], ◌∷◌, ◌++◌, length, drop, Option, Some, None, refl, sym, ap, subst, ◌∙◌, arith, inl, inr}
-use Rattle.std.specs.Prelude.{not, ◌||◌, ◌==◌, nat_lt, nat_le, if◌then◌else◌, IsTrue, slice_get, All}
+use Rattle.std.proofs.Common.{◌≡◌, ℕ, ◌+◌, ◌-◌, ◌<◌, ◌≤◌, true, List, [], ◌∷◌, ◌++◌, length, drop, Option, Some, None, refl, sym, ap, subst, ◌∙◌, arith, inl, inr}
+use Rattle.std.specs.Prelude.{not, ◌||◌, ◌==◌, nat_lt, nat_le, if◌then◌else◌, IsTrue, slice_get}
 use Rattle.std.specs.List.{list_any}
 use Rattle.std.proofs.lemmas.Bool.{cond_both, both_ways, not-false, false≢true, eqb-true, ltb-false, leb-false}
 use Rattle.std.proofs.lemmas.List.{append-nil, drop_all, length-append}
-use Rattle.std.proofs.lemmas.List.Elements.{All-nil, All-cons, All-push, All-take}
+use Rattle.std.proofs.lemmas.List.Elements.{All-nil, All-cons, All-push}
 use Rattle.std.proofs.lemmas.Option.{same_Some}
 use Rattle.hm_base.specs.declared.entry.Entry.{Entry}
 use Rattle.hm_base.specs.declared.node.Node.{Node}
@@ -19,7 +19,7 @@ use Rattle.hm_base.specs.Logs.{is_write, end_stamp, read_ahead}
 use Rattle.hm_base.specs.Stamps.{◌≺◌}
 use Rattle.hm_base.specs.Taking.{Took, Taken, extended, grown, take_page}
 use Rattle.hm_base.specs.Verdicts.{judge, admission}
-use Rattle.hm_base.proofs.ListLaws.{prefix_same, prefix_append, prefix-length, prefix_is_take, prefix_equal, taken_page}
+use Rattle.hm_base.proofs.ListLaws.{prefix_same, prefix_append, prefix-length, prefix_equal, taken_page}
 use Rattle.hm_packet.specs.declared.acted.Did.TheVariants as did
 use Rattle.hm_packet.specs.declared.body.Body.{Body}
 use Rattle.hm_packet.specs.declared.body.Body.TheVariants as body
@@ -39,21 +39,14 @@ use Rattle.hm_rules.specs.World.{World}
 use Rattle.hm_core_laws.specs.Sourced.{IsSourced}
 use Rattle.hm_core_laws.specs.Packets.{BodyHolds, Holds}
 use Rattle.hm_core_laws.specs.Core.{ReplicaHolds}
-use Rattle.hm_chain_laws.specs.Chained.{HasMember, MemberHolds, IsPageOf, PageFits, BodyFits, Fits}
-use Rattle.hm_chain_laws.proofs.Members.{first_least, IsBefore, before_is}
+use Rattle.hm_core_laws.specs.Epochs.{HasMember}
+use Rattle.hm_core_laws.proofs.ListSteps.{there_is, All-prefix}
+use Rattle.hm_chain_laws.specs.Chained.{MemberHolds, IsPageOf, PageFits, BodyFits, Fits}
+use Rattle.hm_core_laws.proofs.Members.{first_least, IsBefore, before_is}
 use Rattle.hm_chain_laws.proofs.ChainParts.{Acts, Becomes, Sends, IsFree, free_none, sends_none, sends_one, passing, silently, declaring, growing}
 use Rattle.hm_chain_laws.proofs.ChainReads.{Fine, ignores, mine, whole, again, ask_row, normal_read_row, stamped, refuse_row}
 
 -- ---- lists
-
-there_is : {A : Type 0} (xs : List A) (i : ℕ) → i < length xs → (x : A) × At xs i x
-there_is [] i l = absurd (omega arith)
-there_is (x ∷ xs) zero l = (x, refl)
-there_is (x ∷ xs) (suc i) l = there_is xs i (omega arith)
-
--- what holds of each item holds of each in a front
-All-prefix : {A : Type 0} (P : A → Type 0) {xs ys : List A} → IsPrefix xs ys → All P ys → All P xs
-All-prefix {A} P {xs} {ys} p all = subst (All P) (prefix_is_take p) (All-take P (length xs) ys all)
 
 number_is : (o : Option ℕ) (n : ℕ) → is_number o n ≡ true → o ≡ Some n
 number_is None n t = absurd (false≢true t)

@@ -1,5 +1,4 @@
 pub mod LogGrowth
-mod Members
 mod ChainParts
 mod ChainReads
 mod ChainRows

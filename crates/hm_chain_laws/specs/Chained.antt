@@ -1,7 +1,7 @@
 -- What holds of a chain after every event, for all of its members at once: an earlier member's log begins with a later one's, a page
 -- in the net is part of the log of each member before the one that takes it, and the tail's log is the declared list (after van
 -- Renesse and Schneider, "Chain Replication").
-use Rattle.std.specs.Prelude.{◌≡◌, ℕ, ◌+◌, ◌<◌, ◌≤◌, ◌⊎◌, true, false, IsTrue, List, [], ◌∷◌, length, None, All}
+use Rattle.std.specs.Prelude.{◌≡◌, ℕ, ◌<◌, ◌≤◌, ◌⊎◌, true, false, IsTrue, List, [], length, None, All}
 use Rattle.hm_base.specs.declared.entry.Entry.{Entry}
 use Rattle.hm_base.specs.declared.node.GroupKind.TheVariants.{Chain}
 use Rattle.hm_base.specs.Lists.{IsPrefix, IsSlice}
@@ -12,31 +12,11 @@ use Rattle.hm_packet.specs.declared.body.Feed.{Feed}
 use Rattle.hm_packet.specs.Messages.{Message}
 use Rattle.hm_order.specs.Marks.{At}
 use Rattle.hm_rules.specs.Senders.{number}
-use Rattle.hm_rules.specs.Numbers.{stands_in}
 use Rattle.hm_rules.specs.Replica.{Replica}
 use Rattle.hm_rules.specs.Chain.{is_tail}
 use Rattle.hm_rules.specs.World.{World, is_stopped}
 use Rattle.hm_core_laws.specs.Core.{Core}
-
--- ---- members
-
-abbrev pub HasMember : List ℕ → ℕ → Type 0
-HasMember members n = IsTrue (stands_in n members)
-
--- each member is above those before it, and none is below `low`
-abbrev pub RiseFrom : ℕ → List ℕ → Type 0
-RiseFrom low [] = Unit {0}
-RiseFrom low (m ∷ ms) = (low ≤ m) × RiseFrom (m + 1) ms
-
--- The members of each epoch so far, from epoch 0 on: they rise, and each is a replica's number. A later epoch has no member that an
--- earlier one hasn't, a live replica is a member of each, and the service has those of the last.
-pub record EpochsHold (w : World) (epochs : List (List ℕ)) : Type 0 where
-  pub rise : (e : ℕ) (members : List ℕ) → At epochs e members → RiseFrom 0 members
-  pub below : (e : ℕ) (members : List ℕ) (i : ℕ) → At epochs e members → HasMember members i → i < length w.replicas
-  pub fewer : (e f : ℕ) (members later : List ℕ) (i : ℕ) → At epochs e members → At epochs f later → e ≤ f → HasMember later i → HasMember members i
-  pub live : (n : ℕ) (r : Replica) (e : ℕ) (members : List ℕ) → At w.replicas n r → is_stopped w n ≡ false → At epochs e members → HasMember members n
-  pub service : At epochs w.service.epoch w.service.members
-  pub count : length epochs ≡ w.service.epoch + 1
+use Rattle.hm_core_laws.specs.Epochs.{HasMember, EpochsHold}
 
 -- ---- replicas
 

@@ -9,6 +9,7 @@ ghost use Rattle.hm_rules.specs.Events.{Setup, Event};
 ghost use Rattle.hm_rules.specs.World.{World, opens, is_stopped};
 ghost use Rattle.hm_rules.specs.Happens.{happens};
 ghost use Rattle.hm_rules.specs.Runs.{run};
+ghost use Rattle.hm_core_laws.specs.Owed.{StepsSound};
 ghost use Rattle.hm_chain_laws.specs.Chained.{IsSound};
 
 /// A chain of any length is sound before its first event, and stays sound in every event.
@@ -22,6 +23,11 @@ pub fn sound_world_is_explained()
     ensures formed { (w : World) → IsSound w → IsWellFormed w.history }
     ensures due { (w : World) → IsSound w → AllDue w.history }
     ensures legal { (w : World) → IsSound w → IsLegal w.history (order w.history) }
+{}
+
+/// In a sound world each step that a live replica may take is as it is owed: what it declares goes on from the declared list.
+pub fn sound_world_is_ready()
+    ensures { (w : World) → IsSound w → StepsSound w }
 {}
 
 /// In a sound world each live replica's log begins with the declared list, and is that list where the replica is the last of the

@@ -1,8 +1,8 @@
 -- Each event is a change of one of three kinds.
-use Rattle.std.proofs.Common.{◌≡◌, ℕ, ◌+◌, Bool, true, false, List, [], ◌∷◌, ◌++◌, length, Option, Some, None, refl, sym, ◌∙◌}
+use Rattle.std.proofs.Common.{◌≡◌, ℕ, ◌+◌, Bool, true, false, List, [], ◌∷◌, ◌++◌, length, Option, Some, None, refl, sym, ap, ◌∙◌}
 use Rattle.std.specs.Prelude.{map, max, not, ◌&&◌, ◌||◌, ◌==◌, nat_lt, nat_le, if◌then◌else◌, IsTrue, slice_get, is_some, All}
 use Rattle.std.specs.List.{list_any}
-use Rattle.std.proofs.lemmas.Bool.{cond_both, not-false}
+use Rattle.std.proofs.lemmas.Bool.{cond_both, not-false, true≢false}
 use Rattle.std.proofs.lemmas.List.{append-nil}
 use Rattle.std.proofs.lemmas.List.Elements.{All-nil, All-cons, All-map}
 use Rattle.hm_base.specs.declared.node.Node.{Node}
@@ -35,7 +35,7 @@ use Rattle.hm_rules.specs.Events.{Event}
 use Rattle.hm_rules.specs.World.{Client, World, Happened, starts_switch, barred, ignored_at, taken, posts, switch_at, sent_at, is_stopped, live, client_of}
 use Rattle.hm_rules.specs.Deliveries.{fits, answered, on_reply, to_client, with_switch, turned, to_switch, replica_step, replica_tick, acted, at_replica, to_replica, noted, to_node, deliver}
 use Rattle.hm_rules.specs.Happens.{asks, request_to, invoked, invokes, resends, at_live, stops, serviced, removal, started, start, raw, next, drops, happens}
-use Rattle.hm_core_laws.specs.Changes.{Origin, is_quiet, Change}
+use Rattle.hm_core_laws.specs.Changes.{Origin, is_quiet, Served, Change}
 use Rattle.hm_core_laws.proofs.CoreEvents.{sent_in}
 use Rattle.hm_core_laws.proofs.SameMessages.{sent_before}
 
@@ -109,14 +109,24 @@ group_kept s m = cond_both (same_node m.dst node.Config) (on_refused s m.src m.b
     by_body (body.Refused answer) = cond_both (is_member_node s m.src) (notes_refused s (number m.src) answer) (record { service = s; did = did.Ignored why.Foreign }) (λ (n : Noted). SameGroup s n.service) (λ t. by_answer (number m.src) answer) (λ t. (refl, refl))
     by_body other = (refl, refl)
 
+group_of : (old new : World) → Served old new → SameGroup old.service new.service
+group_of old new (Served.Rests e) = (ap (λ (s : Service). s.members) e, ap (λ (s : Service). s.epoch) e)
+group_of old new (Served.Notes m i e) = let kept : SameGroup old.service (service_step old.service m).service = group_kept old.service m in (ap (λ (s : Service). s.members) e ∙ kept.0, ap (λ (s : Service). s.epoch) e ∙ kept.1)
+group_of old new (Served.Retires e) = (ap (λ (s : Service). s.members) e, ap (λ (s : Service). s.epoch) e)
+group_of old new (Served.Starts none e) = (ap (λ (s : Service). s.members) e, ap (λ (s : Service). s.epoch) e)
+
+none_is : (o : Option ℕ) → is_some o ≡ false → o ≡ None
+none_is None e = refl
+none_is (Some n) e = absurd (true≢false e)
+
 -- ---- quiet events
 
 module _ (old w : World) (setup : w.setup ≡ old.setup) (replicas : w.replicas ≡ old.replicas) (declared : w.declared ≡ old.declared) (stopped : IsPrefix old.stopped w.stopped) (history : IsPrefix old.history w.history) where
-  quiet_sent : (sent : List Message) → w.net ≡ old.net ++ sent → Kinds sent → SameGroup old.service w.service → Change old w
-  quiet_sent sent net kinds group = Change.Quiet (record { setup = setup; replicas = replicas; declared = declared; members = group.0; epoch = group.1; stopped = stopped; history = history; sent = sent; net = net; kinds = kinds })
+  quiet_sent : (sent : List Message) → w.net ≡ old.net ++ sent → Kinds sent → Served old w → Change old w
+  quiet_sent sent net kinds service = Change.Quiet (record { setup = setup; replicas = replicas; declared = declared; members = (group_of old w service).0; epoch = (group_of old w service).1; service = service; stopped = stopped; history = history; sent = sent; net = net; kinds = kinds })
 
-  quiet_silent : w.net ≡ old.net → SameGroup old.service w.service → Change old w
-  quiet_silent net group = quiet_sent [] (net ∙ sym (append-nil old.net)) no_kinds group
+  quiet_silent : w.net ≡ old.net → Served old w → Change old w
+  quiet_silent net service = quiet_sent [] (net ∙ sym (append-nil old.net)) no_kinds service
 
 -- The world in which the event happens differs from the old one in its cursor at most.
 module _ (old : World) (cursor : ℕ) where
@@ -128,10 +138,10 @@ module _ (old : World) (cursor : ℕ) where
   at = record old { cursor = cursor }
 
   still : Change old at
-  still = quiet_silent old at refl refl refl (prefix_same old.stopped) (prefix_same old.history) refl (refl, refl)
+  still = quiet_silent old at refl refl refl (prefix_same old.stopped) (prefix_same old.history) refl (Served.Rests refl)
 
   sends : (sent : List Message) → Kinds sent → Change old (posts at sent)
-  sends sent kinds = quiet_sent old (posts at sent) refl refl refl (prefix_same old.stopped) (prefix_same old.history) sent refl kinds (refl, refl)
+  sends sent kinds = quiet_sent old (posts at sent) refl refl refl (prefix_same old.stopped) (prefix_same old.history) sent refl kinds (Served.Rests refl)
 
   invoking : (k : Client) (asked : Want) (s : ℕ) → Ends (invokes at k asked s)
   invoking k asked s =
@@ -139,7 +149,7 @@ module _ (old : World) (cursor : ℕ) where
       let done : Happened = taken at (invoked at asking asked s) in
       cond_both (not (is_some (switch_at at s))) (barred at bar.NoSwitch) (if is_some k.outstanding then barred at bar.Busy else done) Ends (λ t. still)
       (λ t. cond_both (is_some k.outstanding) (barred at bar.Busy) done Ends (λ f. still)
-      (λ f. quiet_sent old (invoked at asking asked s) refl refl refl (prefix_same old.stopped) (prefix_append old.history _) (request_to asking asked s ∷ []) refl (request_kind asking asked s) (refl, refl)))
+      (λ f. quiet_sent old (invoked at asking asked s) refl refl refl (prefix_same old.stopped) (prefix_append old.history _) (request_to asking asked s ∷ []) refl (request_kind asking asked s) (Served.Rests refl)))
 
   resending : (k : Client) (o : Option Want) (s : ℕ) → Ends (resends at k o s)
   resending k None s = still
@@ -150,27 +160,27 @@ module _ (old : World) (cursor : ℕ) where
   replying k reply (Some asked) =
       cond_both (not (k.request == reply.request)) (ignored_at at why.Repeat) (if not (fits asked reply.answer) then ignored_at at why.Foreign else taken at (answered at k reply)) Ends (λ t. still)
       (λ t. cond_both (not (fits asked reply.answer)) (ignored_at at why.Foreign) (taken at (answered at k reply)) Ends (λ f. still)
-      (λ f. quiet_silent old (answered at k reply) refl refl refl (prefix_same old.stopped) (prefix_append old.history _) refl (refl, refl)))
+      (λ f. quiet_silent old (answered at k reply) refl refl refl (prefix_same old.stopped) (prefix_append old.history _) refl (Served.Rests refl)))
 
   at_client : (k : Client) (b : Body) → Ends (to_client at k b)
   at_client k (body.Reply reply) = replying k reply k.outstanding
   at_client k other = still
 
   turning : (n : ℕ) (s : AbstractSwitch) (t : Turn) → TurnKind t → Ends (turned at (with_switch at n s) t)
-  turning n s (turn.Sent p) x = quiet_sent old (posts (with_switch at n s) (p ∷ [])) refl refl refl (prefix_same old.stopped) (prefix_same old.history) (p ∷ []) refl (one_kind p x) (refl, refl)
-  turning n s turn.Noted x = quiet_silent old (with_switch at n s) refl refl refl (prefix_same old.stopped) (prefix_same old.history) refl (refl, refl)
-  turning n s (turn.Ignored reason) x = quiet_silent old (with_switch at n s) refl refl refl (prefix_same old.stopped) (prefix_same old.history) refl (refl, refl)
-  turning n s turn.Full x = quiet_silent old (with_switch at n s) refl refl refl (prefix_same old.stopped) (prefix_same old.history) refl (refl, refl)
-  turning n s turn.Spent x = quiet_silent old (with_switch at n s) refl refl refl (prefix_same old.stopped) (prefix_same old.history) refl (refl, refl)
+  turning n s (turn.Sent p) x = quiet_sent old (posts (with_switch at n s) (p ∷ [])) refl refl refl (prefix_same old.stopped) (prefix_same old.history) (p ∷ []) refl (one_kind p x) (Served.Rests refl)
+  turning n s turn.Noted x = quiet_silent old (with_switch at n s) refl refl refl (prefix_same old.stopped) (prefix_same old.history) refl (Served.Rests refl)
+  turning n s (turn.Ignored reason) x = quiet_silent old (with_switch at n s) refl refl refl (prefix_same old.stopped) (prefix_same old.history) refl (Served.Rests refl)
+  turning n s turn.Full x = quiet_silent old (with_switch at n s) refl refl refl (prefix_same old.stopped) (prefix_same old.history) refl (Served.Rests refl)
+  turning n s turn.Spent x = quiet_silent old (with_switch at n s) refl refl refl (prefix_same old.stopped) (prefix_same old.history) refl (Served.Rests refl)
 
   at_a_switch : (refuse : Bool) (m : Message) (n : ℕ) (o : Option AbstractSwitch) → Ends (to_switch refuse at m n o)
   at_a_switch refuse m n None = still
   at_a_switch refuse m n (Some s) = turning n (switch_step refuse s m).switch (switch_step refuse s m).turn (kind_of_step refuse s m)
 
-  noting : (n : Noted) (d : Did) → SameGroup old.service n.service → Ends (noted at n d)
-  noting n did.Done group = quiet_silent old (record at { service = n.service }) refl refl refl (prefix_same old.stopped) (prefix_same old.history) refl group
-  noting n (did.Ignored reason) group = still
-  noting n did.LogFull group = still
+  noting : (n : Noted) (d : Did) → Served old (record at { service = n.service }) → Ends (noted at n d)
+  noting n did.Done service = quiet_silent old (record at { service = n.service }) refl refl refl (prefix_same old.stopped) (prefix_same old.history) refl service
+  noting n (did.Ignored reason) service = still
+  noting n did.LogFull service = still
 
   -- ---- steps
 
@@ -189,7 +199,7 @@ module _ (old : World) (cursor : ℕ) where
   at_a_node refuse m (node.Client c) i d = at_client (client_of at c) m.body
   at_a_node refuse m (node.Switch s) i d = at_a_switch refuse m s (switch_at at s)
   at_a_node refuse m (node.Replica r) i d = at_a_replica m r (slice_get old.replicas r) i d refl
-  at_a_node refuse m node.Config i d = noting (service_step old.service m) (service_step old.service m).did (group_kept old.service m)
+  at_a_node refuse m node.Config i d = noting (service_step old.service m) (service_step old.service m).did (Served.Notes m i refl)
 
   delivering : (refuse : Bool) (o : Option Message) → ((m : Message) → o ≡ Some m → IsIn m old.net) → Ends (deliver refuse at o)
   delivering refuse None f = still
@@ -211,7 +221,7 @@ module _ (w : World) where
   stopping : (n : ℕ) (o : Option Replica) → Leads (at_live w n (λ r. stops w n) o)
   stopping n None = rests
   stopping n (Some r) = cond_both (is_stopped w n) (barred w bar.Stopped) (stops w n) Leads (λ t. rests)
-      (λ t. quiet_silent w (record w { stopped = w.stopped ++ n ∷ [] }) refl refl refl (prefix_append w.stopped (n ∷ [])) (prefix_same w.history) refl (refl, refl))
+      (λ t. quiet_silent w (record w { stopped = w.stopped ++ n ∷ [] }) refl refl refl (prefix_append w.stopped (n ∷ [])) (prefix_same w.history) refl (Served.Rests refl))
 
   removing : (n : ℕ) → Leads (removal w n)
   removing n =
@@ -226,7 +236,7 @@ module _ (w : World) where
   retiring =
       let outs : List Message = map (refuse_to w.service) w.service.members in
       quiet_sent w (posts (record w { service = record w.service { retiring = true } }) outs) refl refl refl (prefix_same w.stopped) (prefix_same w.history) outs refl
-      (All-map (λ (m : Message). IsTrue (is_quiet m.body)) (refuse_to w.service) w.service.members (λ k x l. refl)) (refl, refl)
+      (All-map (λ (m : Message). IsTrue (is_quiet m.body)) (refuse_to w.service) w.service.members (λ k x l. refl)) (Served.Retires refl)
 
   starting : Leads (start w)
   starting =
@@ -234,7 +244,7 @@ module _ (w : World) where
       cond_both (not w.service.retiring) (barred w bar.NotRetired) (if is_some (awaited w.service (live w)) then barred w bar.NotRefused else if w.service.newest == last_number then barred w bar.NoSwitch else done) Leads (λ a. rests)
       (λ a. cond_both (is_some (awaited w.service (live w))) (barred w bar.NotRefused) (if w.service.newest == last_number then barred w bar.NoSwitch else done) Leads (λ b. rests)
       (λ b. cond_both (w.service.newest == last_number) (barred w bar.NoSwitch) done Leads (λ c. rests)
-      (λ c. quiet_silent w (record w { service = starts w.service; switches = w.switches ++ starts_switch w.setup (starts w.service) ∷ [] }) refl refl refl (prefix_same w.stopped) (prefix_same w.history) refl (refl, refl))))
+      (λ c. quiet_silent w (record w { service = starts w.service; switches = w.switches ++ starts_switch w.setup (starts w.service) ∷ [] }) refl refl refl (prefix_same w.stopped) (prefix_same w.history) refl (Served.Starts (none_is (awaited w.service (live w)) b) refl))))
 
   dropping : (o : Option Message) → Leads (drops w o)
   dropping None = rests

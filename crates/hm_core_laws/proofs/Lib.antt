@@ -1,6 +1,6 @@
 pub mod Sources
 pub mod HoldsLater
-mod ListSteps
+pub mod ListSteps
 mod Switching
 mod Clients
 pub mod CoreGrows
@@ -9,3 +9,6 @@ pub mod CoreEvents
 pub mod CoreOpens
 pub mod Changes
 pub mod StepParts
+pub mod Declaring
+pub mod Members
+pub mod EpochSteps

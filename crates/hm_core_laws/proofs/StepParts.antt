@@ -37,6 +37,9 @@ all_from_at P xs f k d l = f k (get_or xs k d) (slice_get-get_or xs k d l)
 pub undeclared : (k log : List Entry) → IsPrefix k (declared_after k log 0)
 undeclared k log = cond_both (nat_lt (length k) 0) (take 0 log) k (λ (l : List Entry). IsPrefix k l) (λ t. absurd (let l : length k < 0 = ltb-true (length k) 0 t in omega arith)) (λ t. prefix_same k)
 
+pub nothing_declared : (k log : List Entry) → declared_after k log 0 ≡ k
+nothing_declared k log = cond_both (nat_lt (length k) 0) (take 0 log) k (λ (l : List Entry). l ≡ k) (λ t. absurd (let l : length k < 0 = ltb-true (length k) 0 t in omega arith)) (λ t. refl)
+
 pub quiet_sound : (w : World) → Core w → (number : ℕ) (r : Replica) (outs : List Message) → ReplicaHolds w.history w.declared w.net r
     → All (λ (m : Message). IsTrue (replica_sends m.body)) outs → All (Holds w.history w.declared (w.net ++ outs)) outs → StepSound w number (sends r outs)
 quiet_sound w core number r outs holds senders sent = record {

@@ -1,5 +1,5 @@
 -- What an event may change of what a protocol's facts speak of.
-use Rattle.std.specs.Prelude.{◌≡◌, ℕ, Bool, true, false, IsTrue, ◌||◌, List, ◌++◌, slice_get, Some, All}
+use Rattle.std.specs.Prelude.{◌≡◌, ℕ, Bool, true, false, IsTrue, ◌||◌, List, ◌++◌, slice_get, Some, None, All}
 use Rattle.hm_base.specs.declared.node.Node.TheVariants as node
 use Rattle.hm_base.specs.Lists.{IsPrefix, IsIn}
 use Rattle.hm_packet.specs.declared.acted.Did.TheVariants.{Done}
@@ -10,8 +10,8 @@ use Rattle.hm_rules.specs.Senders.{client_sends, switch_sends}
 use Rattle.hm_rules.specs.Replica.{Replica}
 use Rattle.hm_rules.specs.ReplicaSteps.{Stepped}
 use Rattle.hm_rules.specs.Viewstamped.{vr_timeout}
-use Rattle.hm_rules.specs.Service.{is_fixed, is_member, is_last, removes}
-use Rattle.hm_rules.specs.World.{World, is_stopped}
+use Rattle.hm_rules.specs.Service.{is_fixed, is_member, is_last, removes, retires, service_step, awaited, starts}
+use Rattle.hm_rules.specs.World.{World, is_stopped, live}
 use Rattle.hm_rules.specs.Deliveries.{replica_step, replica_tick, stepped}
 use Rattle.hm_rules.specs.Happens.{serviced}
 
@@ -38,6 +38,13 @@ abbrev pub is_quiet : Body → Bool
 is_quiet (body.Refuse refuse) = true
 is_quiet b = client_sends b || switch_sends b
 
+-- what the service did: nothing, or it took in a packet, retired the newest switch, or started the next one
+pub data Served (old new : World) : Type 0 where
+  Rests : new.service ≡ old.service → Served old new
+  Notes : (m : Message) → IsIn m old.net → new.service ≡ (service_step old.service m).service → Served old new
+  Retires : new.service ≡ (retires old.service).service → Served old new
+  Starts : awaited old.service (live old) ≡ None → new.service ≡ starts old.service → Served old new
+
 -- no replica takes a step, and the group stays
 pub record IsQuiet (old new : World) : Type 0 where
   pub setup : new.setup ≡ old.setup
@@ -45,6 +52,7 @@ pub record IsQuiet (old new : World) : Type 0 where
   pub declared : new.declared ≡ old.declared
   pub members : new.service.members ≡ old.service.members
   pub epoch : new.service.epoch ≡ old.service.epoch
+  pub service : Served old new
   pub stopped : IsPrefix old.stopped new.stopped
   pub history : IsPrefix old.history new.history
   pub sent : List Message

@@ -3,6 +3,8 @@ pub mod Packets
 pub mod Core
 pub mod Changes
 pub mod Owed
+pub mod Epochs
+pub mod Later
 pub use Rattle.hm_due_law.specs.Tidy
 pub use Rattle.hm_due_law.specs.Declared
 pub use Rattle.hm_due_law.specs.Answers

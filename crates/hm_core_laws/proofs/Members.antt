@@ -7,7 +7,7 @@ use Rattle.hm_base.specs.Lists.{IsPrefix}
 use Rattle.hm_order.specs.Marks.{At}
 use Rattle.hm_rules.specs.Numbers.{stands_in, numbers_from}
 use Rattle.hm_rules.specs.Chain.{before_in}
-use Rattle.hm_chain_laws.specs.Chained.{HasMember, RiseFrom}
+use Rattle.hm_core_laws.specs.Epochs.{HasMember, RiseFrom}
 
 -- it is the first, or stands behind it
 pub member_cases : (m : ℕ) (ms : List ℕ) (i : ℕ) → HasMember (m ∷ ms) i → (m ≡ i) ⊎ HasMember ms i

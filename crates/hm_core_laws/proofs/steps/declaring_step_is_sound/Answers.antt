@@ -1,0 +1,5 @@
+use Rattle.hm_core_laws.proofs.Declaring.{declaring_sound}
+use Rattle.hm_core_laws.proofs.steps.declaring_step_is_sound.Goals as goal
+
+pub returns : goal.returns
+returns c = λ w number s core log staged longer applies senders stays. declaring_sound w core number s log staged longer applies senders stays

@@ -1,0 +1,63 @@
+ghost use Rattle.std.specs.Prelude.{ℕ, Bool, List};
+ghost use Rattle.hm_order.specs.Legal.{IsWellFormed, AllDue, IsLegal};
+ghost use Rattle.hm_order.specs.Order.{order};
+ghost use Rattle.hm_rules.specs.Events.{Setup, Event};
+ghost use Rattle.hm_rules.specs.World.{World, opens};
+ghost use Rattle.hm_rules.specs.Happens.{happens};
+ghost use Rattle.hm_rules.specs.Runs.{run};
+ghost use Rattle.hm_core_laws.specs.Owed.{StepsSound};
+ghost use Rattle.hm_group_laws.specs.Groups.{CanForm, IsSound};
+
+use hm_chain_laws::chain::{chain_stays_sound, sound_world_is_ready};
+use hm_core_laws::events::{
+    core_explains_history, core_holds_at_first, events_are_changes, events_keep_core,
+};
+use hm_primary_laws::primary::{primary_goes_on, primary_holds_at_first, primary_steps_are_sound};
+use hm_replacement_laws::replacement::{
+    events_keep_replacement, one_switch_is_accepted, replacement_holds_at_first,
+};
+use hm_vr_laws::vr::{vr_goes_on, vr_holds_at_first, vr_steps_are_sound};
+
+/// In a sound world each step that a live replica may take is as it is owed: what it sends is true, and what it declares goes on from
+/// the declared list.
+pub fn sound_group_is_ready()
+    ensures { (w : World) → IsSound w → StepsSound w }
+{
+    sound_world_is_ready();
+    primary_steps_are_sound();
+    one_switch_is_accepted();
+    vr_steps_are_sound();
+}
+
+/// A group of any kind is sound before its first event, and stays sound in every event.
+pub fn group_stays_sound()
+    ensures opens { (setup : Setup) → CanForm setup → IsSound (opens setup) }
+    ensures happens { (w : World) (e : Event) (refuse : Bool) → IsSound w → IsSound (happens w e refuse).world }
+{
+    core_holds_at_first();
+    replacement_holds_at_first();
+    primary_holds_at_first();
+    vr_holds_at_first();
+    chain_stays_sound();
+    events_are_changes();
+    events_keep_core();
+    events_keep_replacement();
+    one_switch_is_accepted();
+    sound_group_is_ready();
+    primary_goes_on();
+    vr_goes_on();
+}
+
+/// Every group is linearizable, be it a chain, of primary-backup or of Viewstamped Replication: after every schedule of writes, reads,
+/// lost, late and repeated packets, stops, removals, timeouts, view changes, ticks and replaced switches, wherever a switch refuses a
+/// write, the history is well formed, each of its replies is due, and its order explains it.
+pub fn every_group_is_linearizable()
+    ensures formed { (setup : Setup) (es : List Event) (refused : List ℕ) → CanForm setup → IsWellFormed (run (opens setup) es refused).history }
+    ensures due { (setup : Setup) (es : List Event) (refused : List ℕ) → CanForm setup → AllDue (run (opens setup) es refused).history }
+    ensures legal { (setup : Setup) (es : List Event) (refused : List ℕ)
+        → CanForm setup
+        → IsLegal (run (opens setup) es refused).history (order (run (opens setup) es refused).history) }
+{
+    group_stays_sound();
+    core_explains_history();
+}

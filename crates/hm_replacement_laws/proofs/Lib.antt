@@ -1,0 +1,4 @@
+mod Services
+pub mod Opens
+pub mod Kept
+pub mod NoneAbove
