@@ -1,9 +1,9 @@
-pub mod ClientLemmas
 pub mod Numbered
 pub mod SlotLemmas
-pub mod DeclareLemmas
-pub mod EventLemmas
 pub mod ReplicaLemmas
+pub mod GroupLemmas
+pub mod TurnLemmas
+pub mod StateLemmas
 pub mod LiveLemmas
 pub mod ServiceLemmas
 pub mod ChainIdle

@@ -1,15 +1,18 @@
 -- What a state is opened with.
 use Rattle.std.proofs.Common.{◌≡◌, ℕ, ◌+◌, List, [], ◌∷◌, ◌++◌, map, refl, sym, ap, ◌∙◌}
 use Rattle.std.proofs.lemmas.List.{map-append}
-use Rattle.hm_base.specs.declared.entry.Entry.{Entry}
-use Rattle.hm_packet.specs.Messages.{Message}
 use Rattle.hm_packet.specs.Routing.{Routing}
-use Rattle.hm_order.specs.declared.mark.Mark.{Mark}
+use Rattle.hm_base.specs.declared.node.GroupKind.TheVariants.{Chain}
+use Rattle.hm_base.specs.Slots.{no_slots}
+use Rattle.hm_parts.specs.Seen.{Posted, Known, Noted}
+use Rattle.hm_rules.specs.Runs.{slotted}
+use Rattle.hm_world.specs.Grouped.{Grouped}
+use Rattle.hm_world.specs.Running.{Running, switches_in, slots_in}
 use Rattle.hm_reconfig.proofs.GroupLemmas.{numbers_push}
 use Rattle.hm_rules.specs.Numbers.{numbers_from}
 use Rattle.hm_rules.specs.Replica.{Replica, opened}
 use Rattle.hm_rules.specs.Service.{Service, served, service_route, replicas_below}
-use Rattle.hm_rules.specs.Switch.{AbstractSwitch, opening}
+use Rattle.hm_rules.specs.Switch.{opening}
 use Rattle.hm_rules.specs.World as rule
 use Rattle.hm_world.specs.declared.event.Setup.{Setup}
 use Rattle.hm_world.specs.Setups.{setup_of}
@@ -25,9 +28,9 @@ open_more members cap me rs new r before pushed is =
     ∙ ap (map (λ me. opened me members cap)) (sym (numbers_push me))
 
 -- the fields together
-pub opens_is : (s : Setup) (net : List Message) (switch : AbstractSwitch) (replicas : List Replica) (stopped : List ℕ) (service : Service) (clients : List rule.Client) (declared : List Entry) (history : List Mark) (route : Routing)
-    (members : List ℕ) → net ≡ [] → switch ≡ opening 1 s.stages s.life route → route ≡ service_route service → service ≡ served s.kind s.size
-    → replicas ≡ map (λ me. opened me members s.cap) (replicas_below s.size) → members ≡ service.members → stopped ≡ [] → clients ≡ [] → declared ≡ [] → history ≡ []
-    → record { setup = setup_of s; net = net; cursor = 0; switches = switch ∷ []; replicas = replicas; stopped = stopped; service = service; clients = clients; declared = declared; history = history } ≡ rule.opens (setup_of s)
-opens_is s net switch replicas stopped service clients declared history route members net_is switch_is route_is service_is replicas_is members_is stopped_is clients_is declared_is history_is =
-    rw (net_is, stopped_is, clients_is, declared_is, history_is, replicas_is, members_is, switch_is, route_is, service_is) refl
+pub opens_is : (s : Setup) (net : Posted) (switches : Running) (group : Grouped) (stopped : List ℕ) (service : Service) (clients : Known) (seen : Noted) (route : Routing) (members : List ℕ) → s.kind ≡ Chain → net ≡ record { packets = []; cursor = 0; limit = 0 }
+    → switches_in switches ≡ opening 1 s.stages s.life route ∷ [] → slots_in switches ≡ no_slots s.stages s.bits ∷ [] → route ≡ service_route service → service ≡ served s.kind s.size
+    → group ≡ record { kind = Chain; cap = s.cap; replicas = map (λ me. opened me members s.cap) (replicas_below s.size) } → members ≡ service.members → stopped ≡ [] → clients ≡ record { clients = []; kept = 0; limit = 0 } → seen ≡ record { declared = []; history = []; cap = s.cap; limit = 0 }
+    → record { world = record { setup = record { kind = group.kind; size = s.size; stages = s.stages; bits = s.bits; life = s.life; cap = group.cap }; net = net.packets; cursor = net.cursor; switches = switches_in switches; replicas = group.replicas; stopped = stopped; service = service; clients = clients.clients; declared = seen.declared; history = seen.history }; slots = slots_in switches } ≡ slotted (rule.opens (setup_of s))
+opens_is s net switches group stopped service clients seen route members kind_is net_is switches_is slots_is route_is service_is group_is members_is stopped_is clients_is seen_is =
+    rw (net_is, stopped_is, clients_is, seen_is, switches_is, slots_is, group_is, members_is, route_is, service_is, kind_is) refl

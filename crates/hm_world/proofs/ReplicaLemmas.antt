@@ -8,7 +8,7 @@ use Rattle.std.proofs.lemmas.List.Elements.{All-set, All-map}
 use Rattle.hm_base.specs.Lists.{IsPrefix}
 use Rattle.hm_chain_laws.specs.Kept.{KeepsLog}
 use Rattle.hm_rules.specs.Replica.{Replica, opened}
-use Rattle.hm_world.specs.StateFields.{IsMember}
+use Rattle.hm_world.specs.GroupFields.{IsMember}
 
 -- the replica that was put in place
 pub get_set : {A : Type 0} (xs : List A) (n : ℕ) (x : A) → n < length xs → slice_get (slice_set xs n x) n ≡ Some x

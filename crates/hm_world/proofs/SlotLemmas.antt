@@ -1,25 +1,33 @@
 -- The slots of the switches after an event, and which writes find them full.
-use Rattle.std.proofs.Common.{◌≡◌, ℕ, ◌+◌, Bool, List, [], ◌∷◌, length, map, Option, Some, refl, sym, ap, ◌∙◌, subst, arith}
-use Rattle.std.specs.Prelude.{slice_get}
+use Rattle.std.proofs.Common.{◌≡◌, ℕ, ◌+◌, ◌-◌, Bool, List, [], ◌∷◌, ◌++◌, length, Option, Some, refl, sym, ap, ◌∙◌, subst, arith, length-append}
+use Rattle.std.specs.Prelude.{slice_set}
 use Rattle.std.proofs.lemmas.List.{drop_all, length-map}
 use Rattle.hm_base.specs.Slots.{Slots}
-use Rattle.hm_dirtyset.specs.Table.{Table, slots_of}
+use Rattle.hm_base.specs.declared.node.Node.{Node}
+use Rattle.hm_dirtyset.specs.Table.{slots_of}
 use Rattle.hm_packet.specs.declared.body.Body.{Body}
 use Rattle.hm_packet.specs.declared.body.Body.TheVariants as body
-use Rattle.hm_rules.specs.Switch.{AbstractSwitch}
+use Rattle.hm_packet.specs.declared.outcome.Outcome.{Outcome}
+use Rattle.hm_packet.specs.declared.outcome.Outcome.TheVariants as outcome
+use Rattle.hm_packet.specs.declared.turn.Turn.{Turn}
+use Rattle.hm_packet.specs.declared.turn.Turn.TheVariants as turn
+use Rattle.hm_packet.specs.Messages.{Message}
+use Rattle.hm_parts.specs.Seen.{Posted}
+use Rattle.hm_rules.specs.Switch.{AbstractSwitch, switch_step}
 use Rattle.hm_rules.specs.Events.{Setup}
 use Rattle.hm_rules.specs.Senders.{number}
-use Rattle.hm_rules.specs.World.{World, Happened}
-use Rattle.hm_rules.specs.Deliveries.{to_node}
-use Rattle.hm_rules.specs.Happens.{passed, next}
-use Rattle.hm_rules.specs.Runs.{put_all, slots_after, slotted_after, finds_full_in, finds_full_with}
-use Rattle.hm_packet.specs.Messages.{Message}
-use Rattle.hm_refusal_laws.specs.Slotting.{slot_happens, slot_step}
+use Rattle.hm_rules.specs.World.{World, Happened, switch_at}
+use Rattle.hm_rules.specs.Deliveries.{to_node, to_switch, at_switch, turned, with_switch}
+use Rattle.hm_rules.specs.Runs.{put_all, slots_after, slotted_after, finds_full_in}
+use Rattle.hm_refusal_laws.specs.Slotting.{slot_happens}
 use Rattle.hm_world.specs.declared.event.Event.{Event}
+use Rattle.hm_world.specs.declared.state.State.{State}
 use Rattle.hm_world.specs.Setups.{event_of}
-use Rattle.hm_world.specs.declared.state.State.TheInside.{Inside}
-use Rattle.hm_world.specs.Slotted.{finds_full}
-use Rattle.hm_world.specs.StateFields.{Parts, parts_of, slotted_of, switches_of, SlotsFollow}
+use Rattle.hm_world.specs.Slotted.{Seen}
+use Rattle.hm_world.specs.Running.{Running, switches_in, tables_in, slots_in, full_in, IsTurn}
+use Rattle.hm_world.specs.StateFields.{world_of, slotted_of, Keeps, Quietly, Ends}
+
+-- ---- an event that no switch has to do with
 
 -- switches that stay number no write
 slots_stay : (setup : Setup) (ts : List Slots) (ss : List AbstractSwitch) → length ts ≡ length ss → slots_after setup ts ss ss ≡ ts
@@ -30,45 +38,96 @@ slots_stay setup (t ∷ ts) (s ∷ ss) many =
     ap (λ (l : List ℕ). put_all t s.point (length s.numbered + 1) l ∷ slots_after setup ts ss ss) (drop_all (length s.numbered) s.numbered (omega arith))
     ∙ ap (λ (l : List Slots). t ∷ l) (slots_stay setup ts ss (omega (arith, many)))
 
-pub follow_quietly : (old new : Parts) → length old.tables ≡ length old.world.switches → switches_of new ≡ switches_of old → SlotsFollow old new
-follow_quietly old new many same =
-    let switches : new.world.switches ≡ old.world.switches = ap (λ (p : List AbstractSwitch × List Table). p.0) same in
-    let tables : new.tables ≡ old.tables = ap (λ (p : List AbstractSwitch × List Table). p.1) same in
-    let before : List Slots = map slots_of old.tables in
-    ap (λ (l : List Slots). record { world = new.world; slots = l })
-    (ap (map slots_of) tables
-    ∙ sym (slots_stay new.world.setup before old.world.switches (length-map old.tables slots_of ∙ many))
-    ∙ ap (λ (l : List AbstractSwitch). slots_after new.world.setup before old.world.switches l) (sym switches))
+follow_quietly : (old new : State) → new.switches ≡ old.switches → slotted_of new ≡ slotted_after (slotted_of old) (world_of new)
+follow_quietly old new same =
+    let r : Running = old.switches in
+    let setup : Setup = (world_of new).setup in
+    let many : length (slots_in r) ≡ length (switches_in r) = length-map (tables_in r) slots_of ∙ length-map r.seen (λ (s : Seen). s.table) ∙ sym (length-map r.seen (λ (s : Seen). s.switch)) in
+    ap (λ (l : List Slots). record { world = world_of new; slots = l })
+    (ap slots_in same ∙ sym (slots_stay setup (slots_in r) (switches_in r) many) ∙ ap (λ (x : Running). slots_after setup (slots_in r) (switches_in r) (switches_in x)) (sym same))
 
--- the world that an event leads to, with its slots
-reached : (old new : Parts) (w : World) → SlotsFollow old new → new.world ≡ w → slotted_of new ≡ slotted_after (slotted_of old) w
-reached old new w follow same = follow ∙ ap (slotted_after (slotted_of old)) same
+pub ends_quietly : (old new : State) (o : Outcome) (h : Happened) → Quietly old new o h → Ends old new o h
+ends_quietly old new o h q = record { world = follow_quietly old new q.switches ∙ ap (slotted_after (slotted_of old)) q.world; outcome = q.outcome; keeps = q.keeps }
 
-reached_quietly : (old new : Parts) (w : World) → length old.tables ≡ length old.world.switches → switches_of new ≡ switches_of old → new.world ≡ w → slotted_of new ≡ slotted_after (slotted_of old) w
-reached_quietly old new w many switches same = reached old new w (follow_quietly old new many switches) same
+-- at the event itself
+pub take_quietly : (old new : State) (o : Outcome) (e known : Event) → e ≡ known → Quietly old new o (slot_happens (slotted_of old) (event_of known)) → Ends old new o (slot_happens (slotted_of old) (event_of e))
+take_quietly old new o e known is q = subst (λ (v : Event). Ends old new o (slot_happens (slotted_of old) (event_of v))) (sym is) (ends_quietly old new o (slot_happens (slotted_of old) (event_of known)) q)
 
--- an event that has to do with no switch
-pub take_quietly : (old new : Parts) (e known : Event) → e ≡ known → length old.tables ≡ length old.world.switches → switches_of new ≡ switches_of old
-    → new.world ≡ (slot_happens (slotted_of old) (event_of known)).world → slotted_of new ≡ slot_step (slotted_of old) (event_of e)
-take_quietly old new e known is many switches same =
-    subst (λ (v : Event). slotted_of new ≡ slot_step (slotted_of old) (event_of v)) (sym is) (reached_quietly old new (slot_happens (slotted_of old) (event_of known)).world many switches same)
+-- at the arrival of a packet
+abbrev arrives : State → Message → Node → Happened
+arrives old m d = to_node (finds_full_in (slotted_of old) (number d) m.body) (world_of old) m d
 
--- the first switch finds its slots full as the rules say
-pub full_at_first : (w : Inside) (b : Body) → finds_full_in (slotted_of (parts_of w)) 1 b ≡ finds_full w.switch b
-full_at_first w (body.Write write) = refl
-full_at_first w other = refl
+pub deliver_quietly : (old new : State) (o : Outcome) (m : Message) (d known : Node) → d ≡ known → Quietly old new o (arrives old m known) → Ends old new o (arrives old m d)
+deliver_quietly old new o m d known is q = subst (λ (n : Node). Ends old new o (arrives old m n)) (sym is) (ends_quietly old new o (arrives old m known) q)
 
--- the cursor is nothing to the slots
-full_once_passed : (p : Parts) (number : ℕ) (b : Body) → finds_full_in (slotted_of (record p { world = passed p.world })) number b ≡ finds_full_in (slotted_of p) number b
-full_once_passed p number (body.Write write) = refl
-full_once_passed p number other = refl
+-- ---- a switch's turn
 
--- the packet at the cursor arrives once the cursor has passed it
-pub arrives_next : {A : Type 0} (F : Happened → A) (x : A) (old mid : Parts) (m : Message) → mid ≡ record old { world = passed old.world } → Some m ≡ slice_get old.world.net old.world.cursor
-    → x ≡ F (to_node (finds_full_in (slotted_of mid) (number m.dst) m.body) mid.world m m.dst)
-    → x ≡ F (next (finds_full_with (slotted_of old) (slice_get old.world.net old.world.cursor)) old.world (slice_get old.world.net old.world.cursor))
-arrives_next F x old mid m passes here is =
-    is
-    ∙ ap (λ (p : Parts). F (to_node (finds_full_in (slotted_of p) (number m.dst) m.body) p.world m m.dst)) passes
-    ∙ ap (λ (b : Bool). F (to_node b (passed old.world) m m.dst)) (full_once_passed old (number m.dst) m.body)
-    ∙ ap (λ (o : Option Message). F (next (finds_full_with (slotted_of old) o) old.world o)) here
+full_is : (old : State) (n : ℕ) (b : Body) → finds_full_in (slotted_of old) n b ≡ full_in old.switches n b
+full_is old n (body.Write write) = refl
+full_is old n other = refl
+
+-- what a turn sends
+abbrev pub posted_by : Turn → Posted → Posted
+posted_by (turn.Sent p) net = record net { packets = net.packets ++ p ∷ [] }
+posted_by other net = net
+
+abbrev pub told_by : Turn → ℕ → Outcome
+told_by (turn.Sent p) n = outcome.Ok (n + 1) 1
+told_by turn.Noted n = outcome.Ok (n + 1) 0
+told_by (turn.Ignored reason) n = outcome.Ignored reason
+told_by turn.Full n = outcome.Full
+told_by turn.Spent n = outcome.Spent
+
+abbrev pub turned_to : State → Running → Turn → State
+turned_to old r made = record old { switches = r; net = posted_by made old.net }
+
+turned_world : (old : State) (r : Running) (n : ℕ) (s : AbstractSwitch) (made : Turn) → switches_in r ≡ slice_set (switches_in old.switches) (n - 1) s → world_of (turned_to old r made) ≡ (turned (world_of old) (with_switch (world_of old) n s) made).world
+turned_world old r n s (turn.Sent p) same = ap (λ (l : List AbstractSwitch). record (world_of old) { switches = l; net = old.net.packets ++ p ∷ [] }) same
+turned_world old r n s turn.Noted same = ap (λ (l : List AbstractSwitch). record (world_of old) { switches = l }) same
+turned_world old r n s (turn.Ignored reason) same = ap (λ (l : List AbstractSwitch). record (world_of old) { switches = l }) same
+turned_world old r n s turn.Full same = ap (λ (l : List AbstractSwitch). record (world_of old) { switches = l }) same
+turned_world old r n s turn.Spent same = ap (λ (l : List AbstractSwitch). record (world_of old) { switches = l }) same
+
+turned_outcome : (w : World) (n : ℕ) (s : AbstractSwitch) (made : Turn) → told_by made (length w.net) ≡ (turned w (with_switch w n s) made).outcome
+turned_outcome w n s (turn.Sent p) =
+    let one : 1 ≡ length (w.net ++ p ∷ []) - length w.net = omega (arith, length-append w.net (p ∷ [])) in ap (λ (k : ℕ). outcome.Ok (length w.net + 1) k) one
+turned_outcome w n s turn.Noted =
+    let none : 0 ≡ length w.net - length w.net = omega arith in ap (λ (k : ℕ). outcome.Ok (length w.net + 1) k) none
+turned_outcome w n s (turn.Ignored reason) = refl
+turned_outcome w n s turn.Full = refl
+turned_outcome w n s turn.Spent = refl
+
+turned_keeps : (old : State) (r : Running) (made : Turn) → r.steps ≡ old.switches.steps + 1 → Keeps old (turned_to old r made)
+turned_keeps old r (turn.Sent p) steps = record { events = refl; net = refl; steps = omega (arith, steps); clients = omega arith; service = refl }
+turned_keeps old r turn.Noted steps = record { events = refl; net = refl; steps = omega (arith, steps); clients = omega arith; service = refl }
+turned_keeps old r (turn.Ignored reason) steps = record { events = refl; net = refl; steps = omega (arith, steps); clients = omega arith; service = refl }
+turned_keeps old r turn.Full steps = record { events = refl; net = refl; steps = omega (arith, steps); clients = omega arith; service = refl }
+turned_keeps old r turn.Spent steps = record { events = refl; net = refl; steps = omega (arith, steps); clients = omega arith; service = refl }
+
+pub turns : (old : State) (r : Running) (made : Turn) (n : ℕ) (m : Message) (s : AbstractSwitch) → switch_at (world_of old) n ≡ Some s → IsTurn old.switches r n made s m
+    → Ends old (turned_to old r made) (told_by made (length old.net.packets)) (to_switch (finds_full_in (slotted_of old) n m.body) (world_of old) m n (switch_at (world_of old) n))
+turns old r made n m s here t =
+    let w : World = world_of old in
+    let new : State = turned_to old r made in
+    let after : AbstractSwitch = (switch_step (full_in old.switches n m.body) s m).switch in
+    let h : Happened = turned w (with_switch w n after) made in
+    let ends : Ends old new (told_by made (length w.net)) h = record {
+      world = ap (λ (l : List Slots). record { world = world_of new; slots = l }) (turned_slots made) ∙ ap (slotted_after (slotted_of old)) (turned_world old r n after made t.switches);
+      outcome = turned_outcome w n after made;
+      keeps = turned_keeps old r made t.steps;
+    } in
+    let is : h ≡ to_switch (finds_full_in (slotted_of old) n m.body) w m n (switch_at w n) =
+    ap (λ (u : Turn). turned w (with_switch w n after) u) t.turn
+    ∙ ap (λ (b : Bool). at_switch w n (switch_step b s m)) (sym (full_is old n m.body))
+    ∙ ap (λ (o : Option AbstractSwitch). to_switch (finds_full_in (slotted_of old) n m.body) w m n o) (sym here) in
+    subst (λ (x : Happened). Ends old new (told_by made (length w.net)) x) is ends
+  where
+    turned_slots : (u : Turn) → slots_in (turned_to old r u).switches ≡ slots_after (world_of (turned_to old r u)).setup (slots_in old.switches) (switches_in old.switches) (switches_in r)
+    turned_slots u = t.slots (world_of (turned_to old r u)).setup
+
+-- the turn as the code finds it, with the count of packets that it took before
+pub turn_ends : (old : State) (r : Running) (made known : Turn) (k n : ℕ) (m : Message) (s : AbstractSwitch) → made ≡ known → k ≡ length old.net.packets → switch_at (world_of old) n ≡ Some s → IsTurn old.switches r n made s m
+    → Ends old (turned_to old r known) (told_by known k) (to_switch (finds_full_in (slotted_of old) n m.body) (world_of old) m n (switch_at (world_of old) n))
+turn_ends old r made known k n m s is count here t =
+    let h : Happened = to_switch (finds_full_in (slotted_of old) n m.body) (world_of old) m n (switch_at (world_of old) n) in
+    subst (λ (u : Turn). Ends old (turned_to old r u) (told_by u k) h) is (subst (λ (x : ℕ). Ends old (turned_to old r made) (told_by made x) h) (sym count) (turns old r made n m s here t))

@@ -2,10 +2,12 @@ pub mod Slotted
 pub mod SlottedFields
 pub mod Declares
 pub mod Setups
-pub mod Clients
+pub mod Grouped
+pub mod GroupFields
+pub mod Running
+pub mod SwitchesFields
 pub mod StateFields
 pub mod WorldFields
-pub mod Begun
 pub mod Settled
 pub use Rattle.hm_rules.specs.World
 pub use Rattle.hm_rules.specs.Happens

@@ -1,63 +1,77 @@
--- What contracts see of a state, and what holds of its fields.
-use Rattle.std.specs.Prelude.{◌≡◌, ℕ, ◌-◌, ◌*◌, ◌≤◌, List, [], ◌∷◌, length, map, All, None, vec_len, vec_capacity}
-use Rattle.indexmap.specs.IndexMap.{spare}
+-- The rules' world for a state, what holds of a state between events and in one, and how an event ends.
+use Rattle.std.specs.Prelude.{◌≡◌, ℕ, ◌+◌, ◌*◌, ◌<◌, ◌≤◌, length, vec_len, vec_capacity}
 use Rattle.hm_base.specs.declared.node.GroupKind.TheVariants.{Chain}
-use Rattle.hm_dirtyset.specs.Table.{Table, slots_of}
+use Rattle.hm_base.specs.Lists.{IsPrefix}
+use Rattle.hm_core_laws.specs.Changes.{IsStep}
+use Rattle.hm_core_laws.specs.Owed.{declared_by}
+use Rattle.hm_packet.specs.declared.outcome.Outcome.{Outcome}
 use Rattle.hm_packet.specs.Steps.{max_outs}
-use Rattle.hm_rules.specs.Replica.{Replica}
+use Rattle.hm_rules.specs.ReplicaSteps.{Stepped}
 use Rattle.hm_rules.specs.Runs.{Slotted, slotted_after}
-use Rattle.hm_rules.specs.Switch.{AbstractSwitch}
 use Rattle.hm_rules.specs.World as rule
-use Rattle.hm_world.specs.declared.client.ClientState.{ClientState}
-use Rattle.hm_world.specs.declared.state.State.TheInside.{Inside}
 use Rattle.hm_world.specs.Declares.{max_events}
-use Rattle.hm_world.specs.Setups.{setup_of}
-use Rattle.hm_world.specs.Clients.{clients_of}
+use Rattle.hm_world.specs.Running.{switches_in, slots_in}
+use Rattle.hm_world.specs.declared.state.State.{State}
 
--- the rules' world, the switches' dirty tables, how many events were answered, and for how many packets, marks, clients and
--- stops more there is room
-pub record Parts : Type 0 where
-  pub world : rule.World
-  pub tables : List Table
-  pub events : ℕ
-  pub net_room : ℕ
-  pub mark_room : ℕ
-  pub client_room : ℕ
-  pub stop_room : ℕ
-
-abbrev pub world_of : Inside → rule.World
-world_of w =
-    record { setup = setup_of w.setup; net = w.net.items; cursor = w.cursor; switches = w.switch.switch ∷ []; replicas = w.replicas.items; stopped = w.stopped.items; service = w.service; clients = clients_of w.clients.entries; declared = w.declared.items; history = w.history.marks }
-
-abbrev pub parts_of : Inside → Parts
-parts_of w =
-    record { world = world_of w; tables = w.switch.table ∷ []; events = w.events; net_room = vec_capacity w.net - vec_len w.net; mark_room = w.history.spare; client_room = spare w.clients; stop_room = vec_capacity w.stopped - vec_len w.stopped }
+abbrev pub world_of : State → rule.World
+world_of s =
+    record { setup = record { kind = s.group.kind; size = s.setup.size; stages = s.setup.stages; bits = s.setup.bits; life = s.setup.life; cap = s.group.cap }; net = s.net.packets; cursor = s.net.cursor; switches = switches_in s.switches; replicas = s.group.replicas; stopped = s.stopped.items; service = s.service; clients = s.clients.clients; declared = s.observer.declared; history = s.observer.history }
 
 -- the rules' world with the slots of its switches
-abbrev pub slotted_of : Parts → Slotted
-slotted_of p = record { world = p.world; slots = map slots_of p.tables }
+abbrev pub slotted_of : State → Slotted
+slotted_of s = record { world = world_of s; slots = slots_in s.switches }
 
--- the switches with their dirty tables
-abbrev pub switches_of : Parts → List AbstractSwitch × List Table
-switches_of p = (p.world.switches, p.tables)
+-- ---- between events
 
--- each write that was numbered since went into its switch's slots
-abbrev pub SlotsFollow : Parts → Parts → Type 0
-SlotsFollow old new = slotted_of new ≡ slotted_after (slotted_of old) new.world
-
--- a chain's member, which stages no list
-pub record IsMember (cap : ℕ) (r : Replica) : Type 0 where
-  pub cap_is : r.cap ≡ cap
-  pub unstaged : r.staged ≡ None
-
-pub record IsKept (w : Inside) : Type 0 where
+-- a chain, in which what a step of a live replica declares goes on from the declared list
+pub record IsReady (w : rule.World) : Type 0 where
   pub kind : w.setup.kind ≡ Chain
-  pub events : w.events ≤ max_events
-  pub net : length w.net.items ≤ max_outs * w.events
-  pub cursor : w.cursor ≤ length w.net.items
-  pub handled : w.switch.switch.handled ≤ w.events
-  pub requests : All (λ (e : ℕ × ClientState). e.1.request ≤ w.events) w.clients.entries
-  pub replicas : All (λ (r : Replica). IsMember w.setup.cap r) w.replicas.items
-  pub group : w.service.kind ≡ Chain
-  pub bounded : w.setup.cap ≤ max_events
-  pub declared_room : w.setup.cap ≤ vec_capacity w.declared
+  pub declared : (number : ℕ) (s : Stepped) → IsStep w number s → IsPrefix w.declared (declared_by w s)
+
+pub record IsKept (s : State) : Type 0 where
+  pub events : s.events ≤ max_events
+  pub net : s.net.limit ≤ max_outs * s.events
+  pub steps : s.switches.steps ≤ s.events
+  pub clients : s.clients.kept ≤ s.events
+  pub service : s.service.kind ≡ Chain
+
+-- ---- in an event
+
+-- there is room for all that one event may give
+pub record HasRoom (s : State) : Type 0 where
+  pub few : s.events ≤ max_events
+  pub net : length s.net.packets + max_outs ≤ s.net.limit
+  pub sent : s.net.limit ≤ max_outs * s.events
+  pub marks : length s.observer.history + s.group.cap + 1 ≤ s.observer.limit
+  pub entries : s.group.cap ≤ s.observer.cap
+  pub clients : s.clients.kept < s.clients.limit
+  pub requests : s.clients.kept < s.events
+  pub steps : s.switches.steps < s.events
+  pub stops : vec_len s.stopped < vec_capacity s.stopped
+  pub group : s.group.kind ≡ Chain
+  pub service : s.service.kind ≡ Chain
+
+pub record IsBegun (s : State) : Type 0 where
+  pub room : HasRoom s
+  pub ready : IsReady (world_of s)
+
+-- what is said of a state between events is true again after one
+pub record Keeps (old new : State) : Type 0 where
+  pub events : new.events ≡ old.events
+  pub net : new.net.limit ≡ old.net.limit
+  pub steps : new.switches.steps ≤ old.switches.steps + 1
+  pub clients : new.clients.kept ≤ old.clients.kept + 1
+  pub service : new.service.kind ≡ old.service.kind
+
+-- an event that no switch has to do with ended as the rules say
+pub record Quietly (old new : State) (o : Outcome) (h : rule.Happened) : Type 0 where
+  pub world : world_of new ≡ h.world
+  pub outcome : o ≡ h.outcome
+  pub switches : new.switches ≡ old.switches
+  pub keeps : Keeps old new
+
+-- the same of any event: each write that was numbered went into its switch's slots
+pub record Ends (old new : State) (o : Outcome) (h : rule.Happened) : Type 0 where
+  pub world : slotted_of new ≡ slotted_after (slotted_of old) h.world
+  pub outcome : o ≡ h.outcome
+  pub keeps : Keeps old new

@@ -4,6 +4,8 @@ use Rattle.hm_chain_laws.specs.Chained.{IsSound}
 use Rattle.hm_dirtyset.specs.Table.{Table, slots_of}
 use Rattle.hm_rules.specs.Runs.{Slotted}
 use Rattle.hm_rules.specs.World as rule
+use Rattle.hm_world.specs.Running.{tables_in}
+use Rattle.hm_world.specs.StateFields as state
 use Rattle.hm_world.specs.declared.world.World.TheInside.{Inside}
 
 -- the rules' world, how many events were answered, and the dirty table of each switch
@@ -17,7 +19,8 @@ abbrev pub with_slots : Held → Slotted
 with_slots h = record { world = h.world; slots = map slots_of h.tables }
 
 abbrev pub held_of : Inside → Held
-held_of w = record { world = w.state.world; events = w.state.events; tables = w.state.tables }
+held_of w = record { world = state.world_of w.state; events = w.state.events; tables = tables_in w.state.switches }
 
 pub record IsKept (w : Inside) : Type 0 where
-  pub sound : IsSound w.state.world
+  pub sound : IsSound (state.world_of w.state)
+  pub state : state.IsKept w.state

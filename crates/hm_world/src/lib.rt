@@ -1,13 +1,16 @@
 //! The world: all nodes, the net between them, the clients and the history.
 #![tactic(auto)]
 
+mod arrivals;
 mod client;
-mod declared;
+mod client_events;
 pub mod event;
 pub mod fault;
-mod nodes;
+pub mod group;
+mod replica_events;
 mod slotted;
 mod state;
+mod switches;
 #[cfg(test)]
 mod tests;
 pub mod world;

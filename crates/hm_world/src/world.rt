@@ -8,7 +8,7 @@ use crate::event::{Event, Setup};
 use crate::fault::WorldFault;
 use crate::state::State;
 use hm_base::memory::NoMemory;
-use hm_chain_laws::chain::{chain_stays_sound, sound_world_keeps_declared};
+use hm_chain_laws::chain::{chain_stays_sound, sound_world_is_ready};
 use hm_order::history::History;
 use hm_packet::acted::Acted;
 use hm_packet::outcome::Outcome;
@@ -64,7 +64,7 @@ impl World {
         ensures err_events { OnErr result (self.new.events ≡ self.old.events) }
     {
         chain_stays_sound();
-        sound_world_keeps_declared();
+        sound_world_is_ready();
         self.state.event(event, &mut self.acted)
     }
 

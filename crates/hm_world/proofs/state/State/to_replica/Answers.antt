@@ -1,40 +1,39 @@
-use Rattle.std.proofs.Common.{sym, ap, ◌∙◌, arith}
+use Rattle.std.proofs.Common.{refl, sym, ◌∙◌, subst}
 use Rattle.std.proofs.lemmas.Option.{slice_get_within}
-use Rattle.hm_packet.specs.declared.outcome.Outcome.{Outcome}
-use Rattle.hm_rules.specs.Chain.{chain_step}
-use Rattle.hm_rules.specs.World.{World, Happened}
-use Rattle.hm_world.proofs.ChainIdle.{step_idle}
-use Rattle.hm_world.proofs.LiveLemmas.{live, not_some, arrives_at, acts}
+use Rattle.hm_rules.specs.Deliveries.{replica_step}
+use Rattle.hm_rules.specs.World.{Happened}
+use Rattle.hm_core_laws.specs.Changes.{Origin}
+use Rattle.hm_world.specs.StateFields.{world_of, Quietly}
+use Rattle.hm_world.proofs.LiveLemmas.{live, not_some, arrives_at, acts, front, step_there, room_stepped}
 use Rattle.hm_world.proofs.state.State.to_replica.Goals as goal
 
-pub step_replica-requires-clause-there : goal.step_replica-requires-clause-there
-step_replica-requires-clause-there c =
-    let l = live c.args.self.now.world c.args.number (sym c.bar_at.ensures.bar ∙ not_some _ _ c.is_some.ensures c.if-is_some.false) in
-    slice_get_within c.args.self.now.world.replicas c.args.number l.0 l.1.here
+pub step-requires : goal.step-requires
+step-requires c =
+    let l = live (world_of c.args.self.now) c.args.number (sym c.bar_at.ensures ∙ not_some _ _ c.is_some.ensures c.if-is_some.false) in
+    slice_get_within c.args.self.now.group.replicas c.args.number l.0 l.1.here
 
-pub step_replica-requires-clause-front : goal.step_replica-requires-clause-front
-step_replica-requires-clause-front c =
-    let l = live c.args.self.now.world c.args.number (sym c.bar_at.ensures.bar ∙ not_some _ _ c.is_some.ensures c.if-is_some.false) in
-    c.requires.ready.front c.args.number l.1.running
+pub settle-requires-clause-room : goal.settle-requires-clause-room
+settle-requires-clause-room c =
+    let l = live (world_of c.args.self.now) c.args.number (sym c.bar_at.ensures ∙ not_some _ _ c.is_some.ensures c.if-is_some.false) in
+    room_stepped c.args.self.now c.step.new.self c.args.number c.step.new.acted _ c.requires.begun.room (c.step.ensures l.0 l.1.here)
 
 pub settle-requires-clause-there : goal.settle-requires-clause-there
 settle-requires-clause-there c =
-    let l = live c.args.self.now.world c.args.number (sym c.bar_at.ensures.bar ∙ not_some _ _ c.is_some.ensures c.if-is_some.false) in
-    let here = slice_get_within c.args.self.now.world.replicas c.args.number l.0 l.1.here in
-    omega (arith, here, c.step_replica.ensures.count)
+    let l = live (world_of c.args.self.now) c.args.number (sym c.bar_at.ensures ∙ not_some _ _ c.is_some.ensures c.if-is_some.false) in
+    step_there c.args.self.now.group c.step.new.self c.args.number c.step.new.acted _ l.0 l.1.here (c.step.ensures l.0 l.1.here)
 
-pub returns-clause-world : goal.returns-clause-world
-returns-clause-world c =
-    let w = c.args.self.now.world in
-    let l = live w c.args.number (sym c.bar_at.ensures.bar ∙ not_some _ _ c.is_some.ensures c.if-is_some.false) in
-    acts {A = World} (λ (h : Happened). h.world) c.settle.new.self.world c.args.self.now c.step_replica.new.self c.args.number c.step_replica.new.acted (chain_step l.0 c.args.packet.now) l.0 l.1.here (c.step_replica.ensures.step l.0 l.1.here)
-    (step_idle l.0 c.args.packet.now) c.settle.ensures.world
-    ∙ ap (λ (h : Happened). h.world) (sym (arrives_at w c.args.packet.now c.args.number l.0 l.1 c.bar_at.ensures.chain))
+pub settle-requires-clause-front : goal.settle-requires-clause-front
+settle-requires-clause-front c =
+    let w = world_of c.args.self.now in
+    let l = live w c.args.number (sym c.bar_at.ensures ∙ not_some _ _ c.is_some.ensures c.if-is_some.false) in
+    let s = replica_step w.setup.kind l.0 c.args.packet.now in
+    front c.args.self.now c.step.new.self c.args.number c.step.new.acted s l.0 l.1.here (c.step.ensures l.0 l.1.here)
+    (λ done. c.requires.begun.ready.declared c.args.number s (record { replica = l.0; there = l.1.here; live = l.1.running; done = done; origin = Origin.Arrival c.args.packet.now c.requires.sent c.requires.here refl }))
 
-pub returns-clause-outcome : goal.returns-clause-outcome
-returns-clause-outcome c =
-    let w = c.args.self.now.world in
-    let l = live w c.args.number (sym c.bar_at.ensures.bar ∙ not_some _ _ c.is_some.ensures c.if-is_some.false) in
-    acts {A = Outcome} (λ (h : Happened). h.outcome) c.settle.result c.args.self.now c.step_replica.new.self c.args.number c.step_replica.new.acted (chain_step l.0 c.args.packet.now) l.0 l.1.here (c.step_replica.ensures.step l.0 l.1.here)
-    (step_idle l.0 c.args.packet.now) c.settle.ensures.outcome
-    ∙ ap (λ (h : Happened). h.outcome) (sym (arrives_at w c.args.packet.now c.args.number l.0 l.1 c.bar_at.ensures.chain))
+pub returns : goal.returns
+returns c =
+    let w = world_of c.args.self.now in
+    let l = live w c.args.number (sym c.bar_at.ensures ∙ not_some _ _ c.is_some.ensures c.if-is_some.false) in
+    let s = replica_step w.setup.kind l.0 c.args.packet.now in
+    subst (λ (h : Happened). Quietly c.args.self.now c.settle.new.self c.settle.result h) (sym (arrives_at w c.args.packet.now c.args.number l.0 l.1))
+    (acts c.args.self.now c.settle.new.self c.settle.result c.step.new.self c.args.number c.step.new.acted s l.0 l.1.here (c.step.ensures l.0 l.1.here) c.settle.ensures)

@@ -9,4 +9,4 @@ use Rattle.hm_world.proofs.world.World.open.Goals as goal
 pub invariant_of-result : goal.invariant_of-result
 invariant_of-result c =
     let l = lawful c.args.setup.now c.in_ok-open.ensures.lawful in
-    record { sound = subst (λ (w : World). IsSound w) (sym (ap (λ (s : Slotted). s.world) c.in_ok-open.ensures.opened)) (c.chain_stays_sound.ensures.opens (setup_of c.args.setup.now) l.kind) }
+    record { sound = subst (λ (w : World). IsSound w) (sym (ap (λ (s : Slotted). s.world) c.in_ok-open.ensures.opened)) (c.chain_stays_sound.ensures.opens (setup_of c.args.setup.now) l.kind); state = c.in_ok-open.ensures.kept }

@@ -1,0 +1,3 @@
+pub mod DeclareLemmas
+pub mod ClientLemmas
+pub mod NetLemmas

@@ -1,0 +1,6 @@
+pub mod Bounds
+pub mod Seen
+pub mod NetFields
+pub mod ClientsAt
+pub mod ClientFields
+pub mod ObserverFields

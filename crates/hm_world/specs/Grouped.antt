@@ -1,0 +1,25 @@
+-- What contracts see of a group, and a step of one of its replicas.
+use Rattle.std.specs.Prelude.{◌≡◌, ◌≢◌, ℕ, List, slice_set}
+use Rattle.hm_base.specs.declared.node.GroupKind.{GroupKind}
+use Rattle.hm_packet.specs.declared.acted.Acted.{Acted}
+use Rattle.hm_packet.specs.declared.acted.Did.TheVariants.{Done}
+use Rattle.hm_replica.specs.Given.{Gives}
+use Rattle.hm_rules.specs.Replica.{Replica}
+use Rattle.hm_rules.specs.ReplicaSteps.{Stepped}
+
+-- the protocol, how many entries a log may have, and the replicas by number
+pub record Grouped : Type 0 where
+  pub kind : GroupKind
+  pub cap : ℕ
+  pub replicas : List Replica
+
+-- a replica of these made a step, and what it gave is the step's
+pub record IsStepAt (old new : List Replica) (number : ℕ) (acted : Acted) (s : Stepped) : Type 0 where
+  pub replicas : new ≡ slice_set old number s.replica
+  pub gives : Gives s.replica acted s
+
+-- the same in a group, which stays as it was where the step wasn't done
+pub record IsGroupStep (old new : Grouped) (number : ℕ) (acted : Acted) (s : Stepped) : Type 0 where
+  pub same : new ≡ record old { replicas = slice_set old.replicas number s.replica }
+  pub gives : Gives s.replica acted s
+  pub idle : s.did ≢ Done → new ≡ old

@@ -1,0 +1,110 @@
+ghost use Rattle.std.specs.Prelude.{◌≡◌, slice_get};
+ghost use Rattle.hm_base.specs.Lists.{IsIn};
+ghost use Rattle.hm_rules.specs.World as rule;
+ghost use Rattle.hm_rules.specs.Runs.{finds_full_in, finds_full_with};
+ghost use Rattle.hm_rules.specs.Senders as senders;
+ghost use Rattle.hm_rules.specs.Deliveries as arrival;
+ghost use Rattle.hm_rules.specs.Happens as rules;
+ghost use Rattle.hm_rules.specs.Service as service;
+
+use crate::state::State;
+use hm_base::node::Node;
+use hm_base::why::Why;
+use hm_packet::acted::{Acted, Did};
+use hm_packet::outcome::{Bar, Outcome};
+use hm_packet::packet::Packet;
+use hm_packet::turn::Turn;
+
+impl State {
+    ghost use Rattle.hm_world.specs.StateFields.{world_of, slotted_of, IsBegun, Quietly, Ends};
+
+    /// The packet of this number arrives, whether or not it did before.
+    pub(crate) fn deliver_again(&mut self, number: u32, acted: &mut Acted) -> Outcome
+        requires { IsBegun self.old }
+        ensures { Ends self.old self.new result (arrival.deliver (finds_full_with (slotted_of self.old) (rule.sent_at (world_of self.old) number)) (world_of self.old) (rule.sent_at (world_of self.old) number)) }
+    {
+        match self.sent(number) {
+            None => Outcome::NotAllowed(Bar::NoPacket),
+            Some(packet) => {
+                let packet = packet.copy();
+                self.deliver(&packet, acted)
+            }
+        }
+    }
+
+    /// The packet at the cursor arrives, if there is one.
+    pub(crate) fn next(&mut self, acted: &mut Acted) -> Outcome
+        requires { IsBegun self.old }
+        ensures { Ends self.old self.new result (rules.next (finds_full_with (slotted_of self.old) (slice_get self.old.net.packets self.old.net.cursor)) (world_of self.old) (slice_get self.old.net.packets self.old.net.cursor)) }
+    {
+        match self.net.at(self.net.cursor()) {
+            None => Outcome::NotAllowed(Bar::NoPacket),
+            Some(packet) => {
+                let packet = packet.copy();
+                self.net.pass();
+                self.deliver(&packet, acted)
+            }
+        }
+    }
+
+    /// The cursor passes over a packet, which doesn't arrive.
+    pub(crate) fn lose_next(&mut self) -> Outcome
+        requires { IsBegun self.old }
+        ensures { Quietly self.old self.new result (rules.drops (world_of self.old) (slice_get self.old.net.packets self.old.net.cursor)) }
+    {
+        match self.net.at(self.net.cursor()) {
+            None => Outcome::NotAllowed(Bar::NoPacket),
+            Some(_) => {
+                self.net.pass();
+                self.none_sent()
+            }
+        }
+    }
+
+    /// A packet that was sent arrives at the node that it is addressed to.
+    fn deliver(&mut self, packet: &Packet, acted: &mut Acted) -> Outcome
+        requires begun { IsBegun self.old }
+        requires sent { IsIn packet.now self.old.net.packets }
+        ensures { Ends self.old self.new result (arrival.to_node (finds_full_in (slotted_of self.old) (senders.number packet.now.dst) packet.now.body) (world_of self.old) packet.now packet.now.dst) }
+    {
+        match packet.dst {
+            Node::Client(number) => self.to_client(number, &packet.body),
+            Node::Switch(number) => self.to_switch(number, packet),
+            Node::Replica(number) => self.to_replica(number, packet, acted),
+            Node::Config => self.to_service(packet),
+        }
+    }
+
+    /// A packet arrives at a switch.
+    fn to_switch(&mut self, number: u32, packet: &Packet) -> Outcome
+        requires { IsBegun self.old }
+        ensures { Ends self.old self.new result (arrival.to_switch (finds_full_in (slotted_of self.old) number packet.now.body) (world_of self.old) packet.now number (rule.switch_at (world_of self.old) number)) }
+    {
+        if !self.switches.is_started(number) {
+            return Outcome::Ignored(Why::Gone);
+        }
+        let first = self.net.len() + 1;
+        match self.switches.step(number, packet) {
+            Turn::Sent(sent) => {
+                self.net.post(sent);
+                Outcome::Ok { first, count: 1 }
+            }
+            Turn::Noted => Outcome::Ok { first, count: 0 },
+            Turn::Ignored(why) => Outcome::Ignored(why),
+            Turn::Full => Outcome::Full,
+            Turn::Spent => Outcome::Spent,
+        }
+    }
+
+    /// A packet arrives at the service.
+    fn to_service(&mut self, packet: &Packet) -> Outcome
+        requires { IsBegun self.old }
+        ensures { Quietly self.old self.new result (arrival.to_service (world_of self.old) (service.service_step self.old.service packet.now)) }
+    {
+        match self.service.on_refused(packet) {
+            Did::Done => self.none_sent(),
+            Did::Ignored(why) => Outcome::Ignored(why),
+            Did::LogFull => Outcome::Ignored(Why::Status),
+        }
+    }
+}

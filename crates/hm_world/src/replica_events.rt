@@ -1,0 +1,136 @@
+ghost use Rattle.std.specs.Prelude.{◌≡◌, ◌<◌, ◌++◌, ◌∷◌, [], length, slice_get, Some, vec_len, vec_capacity, false, take};
+ghost use Rattle.hm_base.specs.Lists.{IsIn};
+ghost use Rattle.hm_rules.specs.Numbers.{stands_in};
+ghost use Rattle.hm_rules.specs.Replica.{Replica};
+ghost use Rattle.hm_rules.specs.Deliveries as arrival;
+ghost use Rattle.hm_rules.specs.Happens as rules;
+ghost use Rattle.hm_rules.specs.World as rule;
+ghost use Rattle.hm_world.specs.Settled.{settled, live_bar, removal_bar};
+
+use crate::event::Event;
+use crate::fault::bar_of;
+use crate::state::State;
+use hm_base::node::Node;
+use hm_base::why::Why;
+use hm_packet::acted::{Acted, Did};
+use hm_packet::outcome::{Bar, Outcome};
+use hm_packet::packet::Packet;
+use hm_replica::group::is_member;
+
+impl State {
+    ghost use Rattle.hm_world.specs.Setups.{event_of};
+    ghost use Rattle.hm_world.specs.StateFields.{world_of, HasRoom, IsBegun, Quietly};
+
+    /// A packet arrives at a replica.
+    pub(crate) fn to_replica(&mut self, number: u8, packet: &Packet, acted: &mut Acted) -> Outcome
+        requires begun { IsBegun self.old }
+        requires sent { IsIn packet.now self.old.net.packets }
+        requires here { packet.now.dst ≡ Node.Replica number }
+        ensures { Quietly self.old self.new result (arrival.to_replica (world_of self.old) packet.now number (slice_get self.old.group.replicas number)) }
+    {
+        if self.bar_at(number).is_some() {
+            return Outcome::Ignored(Why::Gone);
+        }
+        self.group.step(number, packet, acted);
+        self.settle(number, acted)
+    }
+
+    /// A replica's clock ticks.
+    pub(crate) fn tick(&mut self, number: u8, acted: &mut Acted) -> Outcome
+        requires { IsBegun self.old }
+        ensures { Quietly self.old self.new result (rules.happens (world_of self.old) (event_of (Event.Tick number)) false) }
+    {
+        if let Some(bar) = self.bar_at(number) {
+            return Outcome::NotAllowed(bar);
+        }
+        self.group.tick(number, acted);
+        self.settle(number, acted)
+    }
+
+    /// A replica stops for good.
+    pub(crate) fn stop(&mut self, number: u8) -> Outcome
+        requires { IsBegun self.old }
+        ensures { Quietly self.old self.new result (rules.happens (world_of self.old) (event_of (Event.Stop number)) false) }
+    {
+        if let Some(bar) = self.bar_at(number) {
+            return Outcome::NotAllowed(bar);
+        }
+        put(&mut self.stopped, number);
+        self.none_sent()
+    }
+
+    /// A stopped member is removed from the group, and the new epoch is told.
+    pub(crate) fn remove(&mut self, number: u8) -> Outcome
+        requires { IsBegun self.old }
+        ensures { Quietly self.old self.new result (rules.removal (world_of self.old) number) }
+    {
+        if is_member(self.service.members(), number) && !is_in(number, &self.stopped) {
+            return Outcome::NotAllowed(Bar::Live);
+        }
+        let first = self.net.len() + 1;
+        match self.service.remove(number) {
+            Ok(outs) => {
+                self.net.post_all(&outs);
+                Outcome::Ok {
+                    first,
+                    count: outs.len(),
+                }
+            }
+            Err(fault) => Outcome::NotAllowed(bar_of(fault)),
+        }
+    }
+
+    /// Why a replica can't act, if it can't: it isn't there, or it is stopped.
+    fn bar_at(&self, number: u8) -> Option<Bar>
+        ensures { result ≡ live_bar (world_of self.now) number }
+    {
+        if number as usize >= self.group.len() {
+            Some(Bar::Member)
+        } else if is_in(number, &self.stopped) {
+            Some(Bar::Stopped)
+        } else {
+            None
+        }
+    }
+
+    /// What a replica's step gave: what it declared joins the declared list, and what it sent the net.
+    fn settle(&mut self, number: u8, acted: &Acted) -> Outcome
+        requires room { HasRoom self.old }
+        requires there { number < length self.old.group.replicas }
+        requires front { (r : Replica)
+            → slice_get self.old.group.replicas number ≡ Some r
+            → acted.now.did ≡ Did.Done
+            → length self.old.observer.declared < acted.now.declared.to
+            → take (length self.old.observer.declared) r.log ≡ self.old.observer.declared }
+        ensures { (r : Replica) → slice_get self.old.group.replicas number ≡ Some r → Quietly self.old self.new result (settled (world_of self.old) r.log acted.now acted.now.did) }
+    {
+        let first = self.net.len() + 1;
+        match acted.did {
+            Did::Done => {
+                let count = acted.outs.len();
+                let log = self.group.log(number);
+                self.observer.declare(log, acted.declared.to);
+                self.net.post_all(&acted.outs);
+                Outcome::Ok { first, count }
+            }
+            Did::Ignored(why) => Outcome::Ignored(why),
+            Did::LogFull => Outcome::LogFull,
+        }
+    }
+}
+
+/// Puts a number into room that is there.
+fn put(numbers: &mut Vec<u8>, number: u8)
+    requires { vec_len numbers.old < vec_capacity numbers.old }
+    ensures items { numbers.new.items ≡ numbers.old.items ++ number ∷ [] }
+{
+    let pushed: Result<_, _> = numbers.push(number);
+    pushed.unwrap();
+}
+
+/// Whether a number stands in a list.
+fn is_in(number: u8, list: &[u8]) -> bool
+    ensures { result ≡ stands_in number list.now }
+{
+    list.iter().any(|other| *other == number)
+}
