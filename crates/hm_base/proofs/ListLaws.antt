@@ -7,6 +7,7 @@ use Rattle.std.proofs.lemmas.List.Elements.{All-get_or}
 use Rattle.std.proofs.lemmas.Option.{none-some, same_Some, slice_get_within, get_or_from_slice_get}
 use Rattle.std.proofs.Math.Seq.{drop-append-add}
 use Rattle.hm_base.specs.Lists.{IsPrefix, IsSlice, IsIn}
+use Rattle.hm_base.specs.Spellings.{spaced}
 
 -- ---- prefixes
 
@@ -188,3 +189,13 @@ each_at P xs i x h e = subst P (get_or_from_slice_get xs i x x e) (All-get_or P 
 
 pub each_in : {A : Type 0} (P : A → Type 0) {xs : List A} {item : A} → All P xs → IsIn item xs → P item
 each_in P {xs} {item} h s = each_at P xs (length s.before) item h (in_at s)
+
+-- ---- words in a row
+
+pub spaced_append : (a b : List (List ℕ)) → spaced (a ++ b) ≡ spaced a ++ spaced b
+spaced_append [] b = refl
+spaced_append (w ∷ ws) b = simp (append_assoc, spaced_append ws b)
+
+-- a text that begins with a longer one
+pub begins_sooner : (front more middle whole : List ℕ) → middle ≡ front ++ more → IsPrefix middle whole → IsPrefix front whole
+begins_sooner front more middle whole is h = record { rest = more ++ h.rest; parts = sym (append_assoc front more h.rest) ∙ (ap (λ (l : List ℕ). l ++ h.rest) (sym is) ∙ h.parts) }
