@@ -1,9 +1,6 @@
 use hm_base::node::GroupKind;
 use hm_base::value::Value;
 
-/// How many events a world takes.
-pub const MAX_EVENTS: u32 = 16_384;
-
 /// How a world is set up: the group, the dirty table's stages and bits, how many packets a switch handles, and how many
 /// entries a log may have.
 #[derive(Clone, Copy, Debug, PartialEq, Eq)]
@@ -16,7 +13,7 @@ pub struct Setup {
     pub cap: u32,
 }
 
-/// What happens to the world.
+/// What happens to the world. A replaced switch and bytes from outside have no event here before their machines are built.
 #[derive(Clone, Copy, Debug, PartialEq, Eq)]
 pub enum Event {
     /// A client invokes a write and sends it to a switch.
@@ -55,6 +52,10 @@ pub enum Event {
     },
     /// A stopped member is removed from the group.
     Remove {
+        replica: u8,
+    },
+    /// A replica has waited too long for its leader.
+    Timeout {
         replica: u8,
     },
 }
