@@ -7,7 +7,7 @@ use Rattle.hm_base.specs.declared.entry.Entry.{Entry}
 use Rattle.hm_base.specs.declared.node.GroupKind.{GroupKind}
 use Rattle.hm_base.specs.declared.node.GroupKind.TheVariants.{Chain}
 use Rattle.hm_base.specs.Lists.{IsPrefix, IsIn}
-use Rattle.hm_base.proofs.ListLaws.{prefix_same, prefix_then, each_in}
+use Rattle.hm_base.proofs.ListLaws.{prefix_same, prefix_then, each_in, set_at}
 use Rattle.hm_packet.specs.declared.acted.Did.TheVariants as did
 use Rattle.hm_packet.specs.Messages.{Message}
 use Rattle.hm_order.specs.Marks.{At}
@@ -21,7 +21,6 @@ use Rattle.hm_core_laws.specs.Packets.{Holds}
 use Rattle.hm_core_laws.specs.Core.{Core}
 use Rattle.hm_core_laws.specs.Changes.{Origin, IsStep, Change}
 use Rattle.hm_core_laws.specs.Owed.{declared_by, StepsSound}
-use Rattle.hm_core_laws.proofs.ListSteps.{set_at}
 use Rattle.hm_core_laws.proofs.EpochSteps.{epochs_stepped}
 use Rattle.hm_chain_laws.specs.Chained.{MemberHolds, Fits, ChainHolds}
 use Rattle.hm_core_laws.proofs.Members.{last_greatest}

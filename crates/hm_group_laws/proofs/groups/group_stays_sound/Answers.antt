@@ -7,7 +7,8 @@ use Rattle.hm_rules.specs.Happens.{happens}
 use Rattle.hm_core_laws.specs.Core.{Core}
 use Rattle.hm_chain_laws.specs.Chained.{ChainHolds}
 use Rattle.hm_primary_laws.specs.Led.{PrimaryHolds}
-use Rattle.hm_vr_laws.specs.Voted.{HasQuorums, OneAccepted, VrHolds}
+use Rattle.hm_core_laws.specs.Accepted.{OneAccepted}
+use Rattle.hm_vr_laws.specs.Voted.{HasQuorums, VrHolds}
 use Rattle.hm_group_laws.specs.Groups.{KindHolds, CanForm}
 use Rattle.hm_group_laws.proofs.groups.group_stays_sound.Goals as goal
 

@@ -6,7 +6,8 @@ use Rattle.hm_core_laws.specs.Core.{Core}
 use Rattle.hm_core_laws.specs.Owed.{StepsSound}
 use Rattle.hm_chain_laws.specs.Chained.{ChainHolds}
 use Rattle.hm_primary_laws.specs.Led.{PrimaryHolds}
-use Rattle.hm_vr_laws.specs.Voted.{OneAccepted, VrHolds}
+use Rattle.hm_core_laws.specs.Accepted.{OneAccepted}
+use Rattle.hm_vr_laws.specs.Voted.{VrHolds}
 use Rattle.hm_group_laws.specs.Groups.{KindHolds}
 use Rattle.hm_group_laws.proofs.groups.sound_group_is_ready.Goals as goal
 
