@@ -10,6 +10,7 @@ use Rattle.std.proofs.lemmas.List.Sums.{fails_before_first, passes_at_first}
 use Rattle.std.proofs.lemmas.Option.{none-some, same_Some, slice_get_within, slice_get-get_or, get_or_from_slice_get}
 use Rattle.std.proofs.Math.Seq.{drop-append-add}
 use Rattle.hm_base.specs.Lists.{IsPrefix, IsSlice, IsIn}
+use Rattle.hm_base.specs.Spellings.{spaced}
 
 -- ---- prefixes
 
@@ -318,3 +319,12 @@ first_later {A} p {xs} {ys} f l =
     let new : (x : A) × (slice_get ys (position_or_len p ys) ≡ Some x) × (p x ≡ true) = first_at p ys (omega arith) in
     let ge : position_or_len p xs ≤ position_or_len p ys = first_le p xs (position_or_len p ys) new.0 (prefix_at_back (position_or_len p ys) new.0 f (omega arith) new.1) new.2 in
     omega arith
+-- ---- words in a row
+
+pub spaced_append : (a b : List (List ℕ)) → spaced (a ++ b) ≡ spaced a ++ spaced b
+spaced_append [] b = refl
+spaced_append (w ∷ ws) b = simp (append_assoc, spaced_append ws b)
+
+-- a text that begins with a longer one
+pub begins_sooner : (front more middle whole : List ℕ) → middle ≡ front ++ more → IsPrefix middle whole → IsPrefix front whole
+begins_sooner front more middle whole is h = record { rest = more ++ h.rest; parts = sym (append_assoc front more h.rest) ∙ (ap (λ (l : List ℕ). l ++ h.rest) (sym is) ∙ h.parts) }
