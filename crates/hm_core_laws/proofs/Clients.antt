@@ -12,11 +12,10 @@ use Rattle.hm_base.proofs.ListLaws.{prefix_append, at_in, in_at, in_either, at_l
 use Rattle.hm_order.specs.declared.mark.Mark.{Mark}
 use Rattle.hm_order.specs.declared.mark.Mark.TheVariants.{Invoke, Commit, Reply}
 use Rattle.hm_order.specs.declared.mark.Want.{Want}
-use Rattle.hm_order.specs.Marks.{At, invoked_at}
+use Rattle.hm_order.specs.Marks.{At, invoked_at, commit_of}
 use Rattle.hm_order.specs.Legal.{IsWellFormed}
 use Rattle.hm_order.proofs.Positions.{invoke_found, want_is}
 use Rattle.hm_due_law.proofs.Later.{want_later}
-use Rattle.hm_rules.specs.Declared.{commit_of}
 use Rattle.hm_rules.specs.World.{Client, with_client}
 use Rattle.hm_core_laws.specs.Packets.{op, WasAsked}
 use Rattle.hm_core_laws.specs.Core.{ClientHolds}

@@ -12,9 +12,9 @@ use Rattle.hm_base.specs.Logs.{is_put, is_write}
 use Rattle.hm_base.proofs.ListLaws.{prefix_same, prefix_append, prefix_then, prefix_at, each_at, each_from_at}
 use Rattle.hm_packet.specs.Messages.{Message}
 use Rattle.hm_order.specs.declared.mark.Mark.{Mark}
-use Rattle.hm_order.specs.Marks.{At}
+use Rattle.hm_order.specs.Marks.{At, op_of}
 use Rattle.hm_order.proofs.Growth.{want_invoked}
-use Rattle.hm_due_law.specs.Declared.{op_of, wanted, WasInvoked}
+use Rattle.hm_due_law.specs.Declared.{wanted, WasInvoked}
 use Rattle.hm_due_law.specs.Agreed.{Agree}
 use Rattle.hm_due_law.proofs.ReadAnswers.{look_due}
 use Rattle.hm_rules.specs.Senders.{replica_sends}

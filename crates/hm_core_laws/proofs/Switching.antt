@@ -25,10 +25,10 @@ use Rattle.hm_packet.specs.Messages.{Message}
 use Rattle.hm_packet.specs.Routing.{Routing}
 use Rattle.hm_order.specs.declared.mark.Mark.{Mark}
 use Rattle.hm_order.specs.declared.mark.Want.TheVariants as want
-use Rattle.hm_order.specs.Marks.{At, invoked_at}
+use Rattle.hm_order.specs.Marks.{At, invoked_at, op_of}
 use Rattle.hm_order.proofs.Growth.{want_invoked}
 use Rattle.hm_due_law.specs.Tidy.{HasWrite}
-use Rattle.hm_due_law.specs.Declared.{op_of, wanted, WasInvoked}
+use Rattle.hm_due_law.specs.Declared.{wanted, WasInvoked}
 use Rattle.hm_due_law.specs.Answers.{IsDueNow, IsClean}
 use Rattle.hm_due_law.specs.Agreed.{Agree}
 use Rattle.hm_due_law.proofs.Fresh.{clean_is_fresh}

@@ -13,12 +13,12 @@ use Rattle.hm_order.specs.declared.mark.Mark.{Mark}
 use Rattle.hm_order.specs.declared.mark.Mark.TheVariants.{Invoke, Commit}
 use Rattle.hm_order.specs.declared.mark.Want.{Want}
 use Rattle.hm_order.specs.declared.mark.Want.TheVariants.{Read, Write}
-use Rattle.hm_order.specs.Marks.{At, invokes, invoked_at, want_in, want_of}
+use Rattle.hm_order.specs.Marks.{At, invokes, invoked_at, want_in, want_of, op_of}
 use Rattle.hm_order.specs.Legal.{IsWellFormed, WritesAt, IsSeen}
 use Rattle.hm_order.proofs.Positions.{invoke_found, invoked_le}
 use Rattle.hm_order.proofs.Growth.{want_invoked}
 use Rattle.hm_due_law.specs.Tidy.{HasWrite}
-use Rattle.hm_due_law.specs.Declared.{op_of, wanted, WasInvoked}
+use Rattle.hm_due_law.specs.Declared.{wanted, WasInvoked}
 use Rattle.hm_due_law.specs.Answers.{IsDueNow, IsFresh}
 
 -- ---- what an operation was invoked for
@@ -70,6 +70,7 @@ module _ {h h' : List Mark} (f : IsPrefix h h') (formed : IsWellFormed h) (op : 
 
   pub due_later : (reply : Stamp × Answer) → IsDueNow h op reply → IsDueNow h' op reply
   due_later reply d = record {
+    invoked = (let e : invoked_at h' op ≡ invoked_at h op = invoked_later op f l in omega (arith, prefix-length f));
     wrote = λ object value w. d.wrote object value (want_before op (Write object value) f l w);
     committed = λ object value w. committed (d.committed object value (want_before op (Write object value) f l w));
     nothing = λ object w z. d.nothing object (want_before op (Read object) f l w) z;
@@ -91,7 +92,7 @@ module _ {h h' : List Mark} (f : IsPrefix h h') (formed : IsWellFormed h) (op : 
             write = record { writer = s.write.writer; stamp = s.write.stamp; value = s.write.value; commit = prefix_at s.place (Commit s.write.writer s.write.stamp) f s.write.commit; want = want_later s.write.writer (Write object s.write.value) f s.write.want };
             earlier = omega (arith, prefix-length f);
             same = s.same;
-            found = s.found;
+            answered = s.answered;
             last = λ i x b. after_invoke object (λ i. s.place < i) (λ i x b. s.last i x b) i x b;
           }
 

@@ -62,6 +62,7 @@ unfolding writes_push
 due_push h m i j op version answer formed n le d =
     let before : (want : Want) → want_of (h ++ m ∷ []) op ≡ Some want → want_of h op ≡ Some want = λ want w. sym (want_push h m op n) ∙ w in
     record {
+      invoked = (let b : invoked_at h op < i = d.invoked in let e : invoked_at (h ++ m ∷ []) op ≡ invoked_at h op = invoked_push h m op n in omega arith);
       wrote = λ object value w. d.wrote object value (before (Write object value) w);
       committed = λ object value w. committed_later object value (d.committed object value (before (Write object value) w));
       nothing = λ object w z. d.nothing object (before (Read object) w) z;
@@ -88,7 +89,7 @@ due_push h m i j op version answer formed n le d =
           write = writes_push h m object s.place s.write;
           earlier = omega arith;
           same = s.same;
-          found = s.found;
+          answered = s.answered;
           last = λ k x less. (
               let e : invoked_at (h ++ m ∷ []) op ≡ invoked_at h op = invoked_push h m op n in
               elim (cases_lt k (length h)) [
@@ -107,11 +108,11 @@ replied_invoked h formed i op version answer e =
 
 -- The mark is an Invoke or a Commit, or the Reply is due in the history before it.
 pub all_due_push : (h : List Mark) (m : Mark) → IsWellFormed h → AllDue h
-    → ((op : OpId) (version : Stamp) (answer : Answer) → Some m ≡ Some (Reply op version answer) → (invoked_at h op < length h) × IsDue h (length h) op version answer)
+    → ((op : OpId) (version : Stamp) (answer : Answer) → Some m ≡ Some (Reply op version answer) → IsDue h (length h) op version answer)
     → AllDue (h ++ m ∷ [])
 all_due_push h m formed due new i op version answer e = elim (at_push_cases h m i (Reply op version answer) e) [
   | inl old ↦ due_push h m i i op version answer formed (replied_invoked h formed i op version answer old) (omega arith) (due i op version answer old)
-  | inr here ↦ let d = new op version answer here.1 in due_push h m (length h) i op version answer formed d.0 (let s : i ≡ length h = here.0 in omega arith) d.1
+  | inr here ↦ let d = new op version answer here.1 in due_push h m (length h) i op version answer formed d.invoked (let s : i ≡ length h = here.0 in omega arith) d
 ]
 
 -- ---- the history stays well formed

@@ -26,10 +26,10 @@ use Rattle.hm_core_laws.specs.Sourced.{IsSourced}
 use Rattle.hm_due_law.proofs.ReadAnswers.{behind_due, look_due}
 use Rattle.hm_due_law.proofs.Requests.{StandsAt, admission_takes, greatest_stands, tidy_look_push, tidy_write_push}
 use Rattle.hm_due_law.specs.Answers.{IsDueNow, IsFresh}
-use Rattle.hm_due_law.specs.Declared.{NoneAbove, WasInvoked, op_of, wanted}
+use Rattle.hm_due_law.specs.Declared.{NoneAbove, WasInvoked, wanted}
 use Rattle.hm_due_law.specs.Tidy.{IsTidy}
 use Rattle.hm_order.proofs.Growth.{want_invoked}
-use Rattle.hm_order.specs.Marks.{At, want_of}
+use Rattle.hm_order.specs.Marks.{At, want_of, op_of}
 use Rattle.hm_packet.specs.Messages.{Message}
 use Rattle.hm_packet.specs.declared.body.FastRead.{FastRead}
 use Rattle.hm_packet.specs.declared.body.FeedAck.{FeedAck}
