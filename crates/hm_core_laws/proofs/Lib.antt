@@ -1,3 +1,4 @@
+pub mod Laws
 pub mod Sources
 pub mod HoldsLater
 pub mod ListSteps

@@ -12,17 +12,6 @@ use Rattle.hm_order.specs.Marks.{At}
 use Rattle.hm_rules.specs.Numbers.{stands_in}
 use Rattle.hm_rules.specs.Switch.{AbstractSwitch}
 
--- the last entry stands in the list
-last_from : (before : Option Entry) (log : List Entry) (e : Entry) → fold (λ (before : Option Entry) (e : Entry). Some e) before log ≡ Some e → (before ≡ Some e) ⊎ ((i : ℕ) × At log i e)
-last_from before [] e h = inl h
-last_from before (x ∷ log) e h = elim (last_from (Some x) log e h) [
-  | inl here ↦ inr (0, here)
-  | inr later ↦ inr (suc later.0, later.1)
-]
-
-pub last_stands : (log : List Entry) (e : Entry) → last_of log ≡ Some e → (i : ℕ) × At log i e
-last_stands log e h = elim (last_from None log e h) [ inl none ↦ absurd (none-some e none) | inr there ↦ there ]
-
 -- ---- switches by number
 
 abbrev pub switch_in : List AbstractSwitch → ℕ → Option AbstractSwitch

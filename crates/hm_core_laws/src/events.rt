@@ -8,17 +8,34 @@ ghost use Rattle.hm_core_laws.specs.Core.{Core};
 ghost use Rattle.hm_core_laws.specs.Changes.{Change};
 ghost use Rattle.hm_core_laws.specs.Owed.{StepsSound};
 
+use hm_due_law::answers::completion_is_due;
+use hm_due_law::growth::{
+    beginning_agrees, clean_read_is_fresh, declaring_keeps_agreement, due_reply_keeps_agreement,
+    due_reply_stays_due, fresh_read_stays_fresh, invocation_keeps_agreement,
+};
+use hm_due_law::tidy::prefix_is_tidy;
 use hm_order::law::order_is_legal;
 
 /// The core facts hold before the first event, whatever the setup.
 pub fn core_holds_at_first()
     ensures { (setup : Setup) → Core (opens setup) }
-{}
+{
+    beginning_agrees();
+}
 
 /// Each event keeps the core facts, where each step of a live replica is as its protocol owes it.
 pub fn events_keep_core()
     ensures { (w : World) (e : Event) (refuse : Bool) → Core w → StepsSound w → Core (happens w e refuse).world }
-{}
+{
+    completion_is_due();
+    prefix_is_tidy();
+    due_reply_stays_due();
+    clean_read_is_fresh();
+    fresh_read_stays_fresh();
+    invocation_keeps_agreement();
+    due_reply_keeps_agreement();
+    declaring_keeps_agreement();
+}
 
 /// An event lets one live replica take a step, or removes a stopped member, or changes nothing that a protocol's own facts
 /// speak of.

@@ -4,7 +4,7 @@ use Rattle.std.proofs.lemmas.List.Elements.{All-append, All-cons, All-map, All-n
 use Rattle.std.proofs.Common.{List, None, Option, Some, [], ap, arith, get_or, length, refl, subst, sym, take, true, ℕ, ◌++◌, ◌+◌, ◌<◌, ◌∙◌, ◌∷◌, ◌≡◌, ◌≤◌}
 use Rattle.std.proofs.lemmas.Bool.{and_parts, cond_both, eqb-true, false≢true, ltb-false, ltb-true, not-false, or_left, or_right}
 use Rattle.std.proofs.lemmas.List.{length-take-le}
-use Rattle.hm_base.proofs.ListLaws.{each_at, prefix_at, prefix_at_back, prefix_take, filter_at}
+use Rattle.hm_base.proofs.ListLaws.{each_at, prefix_at, prefix_at_back, prefix_take, filter_at, last_stands}
 use Rattle.hm_base.specs.Lists.{IsPrefix}
 use Rattle.hm_base.specs.Logs.{end_stamp, greatest_request, is_put, is_write, latest, read_behind, writes}
 use Rattle.hm_base.specs.Stamps.{◌≺◌}
@@ -17,7 +17,6 @@ use Rattle.hm_base.specs.declared.stamp.Stamp.{Stamp}
 use Rattle.hm_base.specs.declared.verdict.Admit.{Admit}
 use Rattle.hm_base.specs.declared.verdict.LatestRequest.{LatestRequest}
 use Rattle.hm_base.specs.declared.verdict.Verdict.{Verdict}
-use Rattle.hm_core_laws.proofs.ListSteps.{last_stands}
 use Rattle.hm_core_laws.proofs.HoldsLater.{holds_later}
 use Rattle.hm_core_laws.specs.Core.{Core}
 use Rattle.hm_core_laws.specs.Later.{StaysTrue}
@@ -28,7 +27,6 @@ use Rattle.hm_due_law.proofs.Requests.{StandsAt, admission_takes, greatest_stand
 use Rattle.hm_due_law.specs.Answers.{IsDueNow, IsFresh}
 use Rattle.hm_due_law.specs.Declared.{NoneAbove, WasInvoked, wanted}
 use Rattle.hm_due_law.specs.Tidy.{IsTidy}
-use Rattle.hm_order.proofs.Growth.{want_invoked}
 use Rattle.hm_order.specs.Marks.{At, want_of, op_of}
 use Rattle.hm_packet.specs.Messages.{Message}
 use Rattle.hm_packet.specs.declared.body.FastRead.{FastRead}
@@ -69,6 +67,7 @@ use Rattle.hm_packet.specs.declared.body.Body.TheVariants as body
 use Rattle.hm_base.specs.declared.verdict.Admit.TheVariants as admit
 use Rattle.hm_base.specs.declared.verdict.Verdict.TheVariants as verdict
 use Rattle.hm_order.specs.declared.mark.Want.TheVariants as want
+use Rattle.hm_order.proofs.Positions.{want_invoked}
 
 -- a request that is found again stands at that place
 again_stands : (log : List Entry) (client request index : ℕ) → judge log client request ≡ verdict.Again index → (e : Entry) × At log index e × (e.client ≡ client) × (e.request ≡ request)
