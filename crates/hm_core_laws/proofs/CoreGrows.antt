@@ -31,7 +31,7 @@ use Rattle.hm_core_laws.specs.Owed.{declared_by, StepSound}
 use Rattle.hm_core_laws.proofs.Sources.{IsUnnumbered, puts_rest, replicas_unnumbered, all_sourced_later}
 use Rattle.hm_core_laws.proofs.Laws.{DueLaws}
 use Rattle.hm_core_laws.proofs.HoldsLater.{all_hold_later, list_later, replica_later, switch_later}
-use Rattle.hm_core_laws.proofs.ListSteps.{switch_in, switch_there, switch_from, switch_none}
+use Rattle.hm_core_laws.proofs.Switches.{switch_in, switch_there, switch_from, switch_none}
 use Rattle.hm_core_laws.proofs.Clients.{client_in, client_commits}
 
 -- a declared list of requests that were made grows in order

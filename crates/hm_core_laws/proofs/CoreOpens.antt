@@ -14,7 +14,7 @@ use Rattle.hm_rules.specs.World.{starts_switch, opened_replicas, opens}
 use Rattle.hm_core_laws.specs.Sourced.{IsSourced}
 use Rattle.hm_core_laws.specs.Packets.{Holds}
 use Rattle.hm_core_laws.specs.Core.{SwitchHolds, ReplicaHolds, Core}
-use Rattle.hm_core_laws.proofs.ListSteps.{switch_in, switch_there}
+use Rattle.hm_core_laws.proofs.Switches.{switch_in, switch_there}
 
 module _ (agree : Agree [] []) (setup : Setup) where
   first : AbstractSwitch

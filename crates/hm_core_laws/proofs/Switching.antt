@@ -39,7 +39,7 @@ use Rattle.hm_core_laws.specs.Core.{SwitchHolds}
 use Rattle.hm_core_laws.proofs.Sources.{IsUnnumbered, unnumbered, puts_append, puts_rest}
 use Rattle.hm_core_laws.proofs.Laws.{DueLaws}
 use Rattle.hm_core_laws.proofs.HoldsLater.{switch_later}
-use Rattle.hm_core_laws.proofs.ListSteps.{stands_behind}
+use Rattle.hm_core_laws.proofs.Switches.{stands_behind}
 use Rattle.hm_order.proofs.Positions.{want_invoked}
 
 -- the switch sent a true packet, which gives no other switch a number

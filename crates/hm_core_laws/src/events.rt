@@ -1,9 +1,12 @@
-ghost use Rattle.std.specs.Prelude.{Bool};
+ghost use Rattle.std.specs.Prelude.{◌≡◌, ℕ, ◌≤◌, Bool, Some, IsSome};
+ghost use Rattle.hm_base.specs.declared.entry.Entry.{Entry};
 ghost use Rattle.hm_order.specs.Legal.{IsLegal};
 ghost use Rattle.hm_order.specs.Order.{order};
 ghost use Rattle.hm_rules.specs.Events.{Setup, Event};
-ghost use Rattle.hm_rules.specs.World.{World, opens};
+ghost use Rattle.hm_rules.specs.Switch.{AbstractSwitch};
+ghost use Rattle.hm_rules.specs.World.{World, opens, switch_at};
 ghost use Rattle.hm_rules.specs.Happens.{happens};
+ghost use Rattle.hm_core_laws.specs.Sourced.{IsNumbered};
 ghost use Rattle.hm_core_laws.specs.Core.{Core};
 ghost use Rattle.hm_core_laws.specs.Changes.{Change};
 ghost use Rattle.hm_core_laws.specs.Owed.{StepsSound};
@@ -49,3 +52,9 @@ pub fn core_explains_history()
 {
     order_is_legal();
 }
+
+/// The number of a started switch is at most the service's newest, and a numbered write is of a started switch.
+pub fn started_switches_are_counted()
+    ensures counted { (w : World) (number : ℕ) (s : AbstractSwitch) → Core w → switch_at w number ≡ Some s → number ≤ w.service.newest }
+    ensures numbered { (w : World) (e : Entry) → Core w → IsNumbered w.net e → IsSome (switch_at w e.stamp.switch) }
+{}

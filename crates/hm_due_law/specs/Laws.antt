@@ -6,7 +6,7 @@ use Rattle.hm_base.specs.declared.operation.Answer.{Answer}
 use Rattle.hm_base.specs.declared.operation.Answer.TheVariants.{Wrote}
 use Rattle.hm_base.specs.declared.operation.OpId.{OpId}
 use Rattle.hm_base.specs.declared.verdict.Admit.TheVariants.{Take}
-use Rattle.hm_base.specs.declared.verdict.Verdict.TheVariants.{New}
+use Rattle.hm_base.specs.declared.verdict.Verdict.TheVariants.{New, Again}
 use Rattle.hm_base.specs.Lists.{IsPrefix}
 use Rattle.hm_base.specs.Logs.{is_write, end_stamp, latest, read_ahead, read_behind}
 use Rattle.hm_base.specs.Verdicts.{admission, judge}
@@ -123,3 +123,8 @@ LoggedReadKeepsTidy = (log : List Entry) (look : Entry)
     → look.stamp ≡ end_stamp log
     → judge log look.client look.request ≡ New
     → IsTidy (log ++ look ∷ [])
+
+abbrev pub RepeatedRequestStands : Type 0
+RepeatedRequestStands = (log : List Entry) (client request index : ℕ)
+    → judge log client request ≡ Again index
+    → (e : Entry) × At log index e × (e.client ≡ client) × (e.request ≡ request)

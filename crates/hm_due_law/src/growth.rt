@@ -1,11 +1,14 @@
-ghost use Rattle.std.specs.Prelude.{◌<◌, List, [], ◌∷◌, ◌++◌, length};
+ghost use Rattle.std.specs.Prelude.{◌≡◌, ℕ, ◌≤◌, true, ◌<◌, List, [], ◌∷◌, ◌++◌, length};
 ghost use Rattle.hm_base.specs.declared.stamp.Stamp.{Stamp};
+ghost use Rattle.hm_base.specs.declared.entry.Entry.{Entry};
 ghost use Rattle.hm_base.specs.declared.operation.Answer.{Answer};
 ghost use Rattle.hm_base.specs.declared.operation.OpId.{OpId};
+ghost use Rattle.hm_base.specs.Logs.{is_write};
 ghost use Rattle.hm_order.specs.declared.mark.Mark.{Mark};
 ghost use Rattle.hm_order.specs.declared.mark.Mark.TheVariants.{Reply};
-ghost use Rattle.hm_order.specs.Marks.{invoked_at};
+ghost use Rattle.hm_order.specs.Marks.{At};
 ghost use Rattle.hm_order.specs.Legal.{IsWellFormed, IsDue};
+ghost use Rattle.hm_due_law.specs.Declared.{Records, NoneAbove};
 ghost use Rattle.hm_due_law.specs.Answers.{IsDueNow};
 ghost use Rattle.hm_due_law.specs.Agreed.{Agree};
 ghost use Rattle.hm_due_law.specs.Laws.{DueReplyStaysDue, CleanReadIsFresh, FreshReadStaysFresh, InvocationKeepsAgreement, DeclaringKeepsAgreement, DueReplyKeepsAgreement};
@@ -49,4 +52,12 @@ pub fn declaring_keeps_agreement()
 /// They go on agreeing where an operation takes its first reply, and it is due.
 pub fn due_reply_keeps_agreement()
     ensures { DueReplyKeepsAgreement }
+{}
+
+/// No Commit is of a later switch where no declared write is.
+pub fn commits_are_of_declared_switches()
+    ensures { (history : List Mark) (declared : List Entry) (switch : ℕ)
+        → Records history declared
+        → ((place : ℕ) (write : Entry) → At declared place write → is_write write ≡ true → write.stamp.switch ≤ switch)
+        → NoneAbove history switch }
 {}

@@ -5,7 +5,7 @@ ghost use Rattle.hm_base.specs.Logs.{is_write, end_stamp};
 ghost use Rattle.hm_base.specs.Stamps.{◌≼◌};
 ghost use Rattle.hm_order.specs.Marks.{At, op_of};
 ghost use Rattle.hm_due_law.specs.Tidy.{IsTidy};
-ghost use Rattle.hm_due_law.specs.Laws.{PrefixIsTidy, AdmittedWriteKeepsTidy, LoggedReadKeepsTidy};
+ghost use Rattle.hm_due_law.specs.Laws.{PrefixIsTidy, AdmittedWriteKeepsTidy, LoggedReadKeepsTidy, RepeatedRequestStands};
 
 /// A prefix of a tidy list is tidy.
 pub fn prefix_is_tidy()
@@ -52,4 +52,9 @@ pub fn stamp_stands_once()
         → is_write other ≡ true
         → one.stamp ≡ other.stamp
         → first ≡ second }
+{}
+
+/// A request that a log has as its client's greatest stands at the place that the verdict names.
+pub fn repeated_request_stands()
+    ensures { RepeatedRequestStands }
 {}
