@@ -14,7 +14,7 @@ use Rattle.hm_base.specs.declared.operation.OpId.{OpId}
 use Rattle.hm_base.specs.Lists.{IsPrefix}
 use Rattle.hm_base.specs.Logs.{is_put, is_write, writes, end_stamp}
 use Rattle.hm_base.specs.Stamps.{least, ◌≼◌, ◌≺◌}
-use Rattle.hm_base.proofs.ListLaws.{prefix_append, prefix_at, prefix_at_back, each_at}
+use Rattle.hm_base.proofs.ListLaws.{prefix_append, prefix_at, prefix_at_back, each_at, at_last, at_push_cases}
 use Rattle.hm_base.proofs.StampLaws.{at_most_then, below_is_other, not_below}
 use Rattle.hm_order.specs.declared.mark.Mark.{Mark}
 use Rattle.hm_order.specs.declared.mark.Mark.TheVariants.{Invoke, Commit, Reply}
@@ -22,7 +22,7 @@ use Rattle.hm_order.specs.declared.mark.Want.{Want}
 use Rattle.hm_order.specs.Marks.{At, invoked_at, committed_at, replied_at, op_of, commit_of, commits_for}
 use Rattle.hm_order.specs.Legal.{IsWellFormed, IsDue}
 use Rattle.hm_order.proofs.Positions.{commit_found}
-use Rattle.hm_order.proofs.Growth.{at_last, at_push_cases, want_invoked, formed_nil, formed_invoke, formed_commit, formed_reply, all_due_nil, all_due_push}
+use Rattle.hm_order.proofs.Growth.{want_invoked, formed_nil, formed_invoke, formed_commit, formed_reply, all_due_nil, all_due_push}
 use Rattle.hm_due_law.specs.Tidy.{IsTidy}
 use Rattle.hm_due_law.specs.Declared.{wanted, WasInvoked, is_commit, commit_marks, Records, LooksComeFirst}
 use Rattle.hm_due_law.specs.Answers.{IsDueNow}

@@ -16,8 +16,9 @@ use Rattle.hm_base.specs.Stamps.{same_stamp, least}
 use Rattle.hm_order.specs.Marks.{At, commits_with, invoked_at, committed_at, version_at, want_of, version_of}
 use Rattle.hm_order.specs.Order.{read_after, read_place, order}
 use Rattle.hm_order.specs.Legal.{after_op, stored, IsLegal, IsWellFormed, WritesAt, IsSeen, AllDue}
-use Rattle.hm_order.proofs.Lists.{at_within, at_same, each_at, ordered_at, at_contains, first_at, first_le}
+use Rattle.hm_order.proofs.Lists.{at_within, at_same, each_at, ordered_at, at_contains}
 use Rattle.hm_base.proofs.StampLaws.{same_stamp_is, same_stamp_self}
+use Rattle.hm_base.proofs.ListLaws.{first_at, first_le}
 use Rattle.hm_order.proofs.Positions.{commit_found, invoke_found, invoked_is, want_is, committed_is, version_is}
 use Rattle.hm_order.proofs.Ranks.{rank, place_read, rank_committed, rank_read, read_placed, Before, order_ordered, order_ranks, order_contains}
 

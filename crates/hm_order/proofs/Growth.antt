@@ -13,27 +13,13 @@ use Rattle.hm_order.specs.declared.mark.Want.{Want}
 use Rattle.hm_order.specs.declared.mark.Want.TheVariants.{Read, Write}
 use Rattle.hm_base.specs.declared.operation.Answer.{Answer}
 use Rattle.hm_base.specs.Stamps.{least}
+use Rattle.hm_base.proofs.ListLaws.{at_push, at_push_cases, at_last}
 use Rattle.hm_order.specs.Marks.{At, invokes, invoked_at, committed_at, replied_at, want_in, want_of}
 use Rattle.hm_order.specs.Legal.{IsWellFormed, WritesAt, IsSeen, IsDue, AllDue}
 use Rattle.hm_order.proofs.Lists.{at_within}
 use Rattle.hm_order.proofs.Positions.{invoke_found, invoked_le, committed_le, replied_le}
 
 -- ---- positions
-
-pub at_push : {A : Type 0} (xs : List A) (x : A) (i : ℕ) (y : A) → At xs i y → At (xs ++ x ∷ []) i y
-at_push [] x i y e = absurd (none-some y e)
-at_push (z ∷ xs) x zero y e = e
-at_push (z ∷ xs) x (suc i) y e = at_push xs x i y e
-
-pub at_push_cases : {A : Type 0} (xs : List A) (x : A) (i : ℕ) (y : A) → At (xs ++ x ∷ []) i y → At xs i y ⊎ ((i ≡ length xs) × (Some x ≡ Some y))
-at_push_cases [] x zero y e = inr (refl, e)
-at_push_cases [] x (suc i) y e = absurd (none-some y e)
-at_push_cases (z ∷ xs) x zero y e = inl e
-at_push_cases (z ∷ xs) x (suc i) y e = elim (at_push_cases xs x i y e) [ inl old ↦ inl old | inr new ↦ inr (ap suc new.0, new.1) ]
-
-pub at_last : {A : Type 0} (xs : List A) (x : A) → At (xs ++ x ∷ []) (length xs) x
-at_last [] x = refl
-at_last (z ∷ xs) x = at_last xs x
 
 get_push : {A : Type 0} (xs : List A) (x : A) (i : ℕ) → i < length xs → slice_get (xs ++ x ∷ []) i ≡ slice_get xs i
 get_push [] x i l = absurd (omega arith)

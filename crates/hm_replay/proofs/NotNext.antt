@@ -2,7 +2,7 @@
 use Rattle.std.proofs.Common.{◌≡◌, ◌≢◌, ℕ, ◌+◌, List, [], ◌∷◌, ◌++◌, Option, Some, None, refl, sym, ap, subst, ◌∙◌, append_assoc}
 use Rattle.std.specs.Prelude.{fold, IfSome}
 use Rattle.hm_base.specs.Spellings.{spaced}
-use Rattle.hm_world.specs.declared.event.Event.TheVariants as event
+use Rattle.hm_schedule.specs.declared.event.Event.TheVariants as event
 use Rattle.hm_schedule.specs.LineWords.{IsWordEnd, SplitsWord}
 use Rattle.hm_schedule.specs.Names.{keyword_text}
 use Rattle.hm_schedule.specs.Orders.{Stage, IsNext, ComeFrom, IsBegun, IsSchedule, IsOutside, after, events_at, line_bytes, lines_text}

@@ -1,5 +1,5 @@
 use Rattle.std.proofs.Common.{◌≡◌, ◌+◌, ◌≤◌, ◌<◌, ℕ, [], subst, ◌∙◌, arith}
-use Rattle.hm_world.specs.Declares.{max_events}
+use Rattle.hm_schedule.specs.Limits.{max_events}
 use Rattle.hm_schedule.specs.Orders.{Stage}
 use Rattle.hm_frame.proofs.KnownBytes.{consumes_none, appends_none}
 use Rattle.hm_replay.specs.Nexts.{EventComes}
