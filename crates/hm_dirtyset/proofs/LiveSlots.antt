@@ -25,10 +25,10 @@ put_in_live : (slots : Slots) (point : ℕ) (kept : Kept) (stage : Option ℕ) �
 put_in_live slots point kept None above = refl
 put_in_live slots point kept (Some stage) above =
     let at : (s place_is : ℕ) → live_part point (with_kept slots stage kept s place_is) ≡ with_kept (live_slots point slots) stage kept s place_is = λ s a.
-        let here : Bool = (s == stage) && (a == place slots.bits stage kept.object) in
-        cond_both here (Some kept) (slots.kept s a) (λ (x : Option Kept). live_part point x ≡ (if here then Some kept else live_part point (slots.kept s a)))
-        (λ t. cond-true (nat_lt point kept.number) (Some kept) None (lt-ltb point kept.number above) ∙ sym (cond-true here (Some kept) (live_part point (slots.kept s a)) t))
-        (λ f. sym (cond-false here (Some kept) (live_part point (slots.kept s a)) f)) in
+    let here : Bool = (s == stage) && (a == place slots.bits stage kept.object) in
+    cond_both here (Some kept) (slots.kept s a) (λ (x : Option Kept). live_part point x ≡ (if here then Some kept else live_part point (slots.kept s a)))
+    (λ t. cond-true (nat_lt point kept.number) (Some kept) None (lt-ltb point kept.number above) ∙ sym (cond-true here (Some kept) (live_part point (slots.kept s a)) t))
+    (λ f. sym (cond-false here (Some kept) (live_part point (slots.kept s a)) f)) in
     let same : (λ (s a : ℕ). live_part point (with_kept slots stage kept s a)) ≡ with_kept (live_slots point slots) stage kept = λ i s a. at s a i in
     ap (λ (k : ℕ → ℕ → Option Kept). record slots { kept = k }) same
 
