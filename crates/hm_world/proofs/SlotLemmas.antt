@@ -1,8 +1,9 @@
 -- The slots of the switches after an event, and which writes find them full.
 use Rattle.std.proofs.Common.{◌≡◌, ℕ, ◌+◌, ◌-◌, Bool, List, [], ◌∷◌, ◌++◌, length, Option, Some, refl, sym, ap, ◌∙◌, subst, arith, length-append}
-use Rattle.std.specs.Prelude.{slice_set}
+use Rattle.std.specs.Prelude.{slice_set, nat_lt}
+use Rattle.std.proofs.lemmas.Bool.{cond-false, le-ltb}
 use Rattle.std.proofs.lemmas.List.{drop_all, length-map}
-use Rattle.hm_base.specs.Slots.{Slots}
+use Rattle.hm_base.specs.Slots.{Slots, live_slots, slots_raised}
 use Rattle.hm_base.specs.declared.node.Node.{Node}
 use Rattle.hm_dirtyset.specs.Table.{slots_of}
 use Rattle.hm_packet.specs.declared.body.Body.{Body}
@@ -35,7 +36,8 @@ slots_stay setup [] [] many = refl
 slots_stay setup [] (s ∷ ss) many = absurd (omega (arith, many))
 slots_stay setup (t ∷ ts) [] many = absurd (omega (arith, many))
 slots_stay setup (t ∷ ts) (s ∷ ss) many =
-    ap (λ (l : List ℕ). put_all t s.point (length s.numbered + 1) l ∷ slots_after setup ts ss ss) (drop_all (length s.numbered) s.numbered (omega arith))
+    ap (λ (l : List ℕ). slots_raised s.point s.point (put_all t s.point (length s.numbered + 1) l) ∷ slots_after setup ts ss ss) (drop_all (length s.numbered) s.numbered (omega arith))
+    ∙ ap (λ (x : Slots). x ∷ slots_after setup ts ss ss) (cond-false (nat_lt s.point s.point) (live_slots s.point t) t (le-ltb s.point s.point (omega arith)))
     ∙ ap (λ (l : List Slots). t ∷ l) (slots_stay setup ts ss (omega (arith, many)))
 
 follow_quietly : (old new : State) → new.switches ≡ old.switches → slotted_of new ≡ slotted_after (slotted_of old) (world_of new)
