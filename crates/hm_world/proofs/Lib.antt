@@ -5,8 +5,6 @@ pub mod GroupLemmas
 pub mod TurnLemmas
 pub mod StateLemmas
 pub mod LiveLemmas
-pub mod ServiceLemmas
-pub mod ChainIdle
 pub mod SetupLemmas
 pub mod OpenLemmas
 pub mod SoundLemmas

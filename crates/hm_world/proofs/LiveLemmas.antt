@@ -19,6 +19,9 @@ use Rattle.hm_rules.specs.Replica.{Replica}
 use Rattle.hm_rules.specs.ReplicaSteps.{Stepped}
 use Rattle.hm_rules.specs.World.{World, Happened, barred, ignored_at, taken, is_stopped}
 use Rattle.hm_rules.specs.Deliveries as arrival
+use Rattle.hm_rules.specs.Events.{Event}
+use Rattle.hm_rules.specs.Service.{is_fixed}
+use Rattle.hm_rules.specs.Viewstamped.{vr_timeout}
 use Rattle.hm_rules.specs.Happens as rules
 use Rattle.hm_base.specs.declared.entry.Entry.{Entry}
 use Rattle.hm_base.specs.Lists.{IsPrefix}
@@ -64,6 +67,12 @@ barred_at w number does b e = barred_by w number does (slice_get w.replicas numb
 pub acts_at : (w : World) (number : ℕ) (does : Replica → Happened) (r : Replica) → IsLive w number r → rules.at_live w number does (slice_get w.replicas number) ≡ does r
 acts_at w number does r l =
     ap (λ (o : Option Replica). rules.at_live w number does o) l.here ∙ ap (λ (b : Bool). if b then barred w bar.Stopped else does r) l.running
+
+-- a timeout, in a fixed group
+pub times_out : (w : World) (number : ℕ) (r : Replica) → is_fixed w.setup.kind ≡ true → IsLive w number r → rules.happens w (Event.Timeout number) false ≡ arrival.at_replica w number (vr_timeout r)
+times_out w number r fixed l =
+    ap (λ (b : Bool). if b then rules.at_live w number (λ q. arrival.at_replica w number (vr_timeout q)) (slice_get w.replicas number) else barred w bar.NotVr) fixed
+    ∙ acts_at w number (λ q. arrival.at_replica w number (vr_timeout q)) r l
 
 -- a packet to a replica that can't act
 gone_by : (w : World) (m : Message) (number : ℕ) (o : Option Replica) (stopped : Bool) (b : Bar) → is_stopped w number ≡ stopped → bar_for o stopped ≡ Some b
@@ -132,7 +141,7 @@ acts old new o g number acted s r here step settle =
       world = q.world ∙ ap (λ (h : Happened). h.world) is;
       outcome = q.outcome ∙ ap (λ (h : Happened). h.outcome) is;
       switches = q.switches;
-      keeps = record { events = q.keeps.events; net = q.keeps.net; steps = q.keeps.steps; clients = q.keeps.clients; service = q.keeps.service };
+      keeps = record { events = q.keeps.events; net = q.keeps.net; steps = q.keeps.steps; clients = q.keeps.clients; service = q.keeps.service; group = q.keeps.group ∙ ap (λ (x : Grouped). x.kind) step.same };
     }
 
 -- what a replica's step gave, in the state
@@ -145,7 +154,7 @@ settles_done old log acted seen net first count seen_is net_is first_is count_is
       world = ap (λ (x : Noted). world_of (record old { observer = x; net = net })) seen_is ∙ ap (λ (x : Posted). world_of (record old { observer = record old.observer { declared = declared_after old.observer.declared log acted.declared.to; history = old.observer.history ++ commits_since old.observer.declared (declared_after old.observer.declared log acted.declared.to) }; net = x })) net_is;
       outcome = ap (λ (n : ℕ). outcome.Ok n count) first_is ∙ ap (λ (n : ℕ). outcome.Ok (length old.net.packets + 1) n) many;
       switches = refl;
-      keeps = record { events = refl; net = ap (λ (x : Posted). x.limit) net_is; steps = omega arith; clients = omega arith; service = refl };
+      keeps = record { events = refl; net = ap (λ (x : Posted). x.limit) net_is; steps = omega arith; clients = omega arith; service = refl; group = refl };
     }
 
 -- ---- what a step may declare
@@ -174,4 +183,4 @@ step_there old g number acted s r here step =
 pub room_stepped : (old : State) (g : Grouped) (number : ℕ) (acted : Acted) (s : Stepped) → HasRoom old → IsGroupStep old.group g number acted s → HasRoom (stepped_to old g)
 room_stepped old g number acted s r step =
     let cap : g.cap ≡ old.group.cap = ap (λ (x : Grouped). x.cap) step.same in
-    record { few = r.few; net = r.net; sent = r.sent; marks = omega (arith, r.marks, cap); entries = omega (arith, r.entries, cap); clients = r.clients; requests = r.requests; steps = r.steps; stops = r.stops; group = ap (λ (x : Grouped). x.kind) step.same ∙ r.group; service = r.service }
+    record { few = r.few; net = r.net; sent = r.sent; marks = omega (arith, r.marks, cap); entries = omega (arith, r.entries, cap); clients = r.clients; requests = r.requests; steps = r.steps; stops = r.stops; service = r.service ∙ sym (ap (λ (x : Grouped). x.kind) step.same) }

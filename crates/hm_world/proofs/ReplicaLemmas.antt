@@ -6,9 +6,7 @@ use Rattle.std.proofs.lemmas.Option.{slice_get_within, get_or_from_slice_get}
 use Rattle.std.proofs.lemmas.List.{set-get_or, take-append-le, take_all}
 use Rattle.std.proofs.lemmas.List.Elements.{All-set, All-map}
 use Rattle.hm_base.specs.Lists.{IsPrefix}
-use Rattle.hm_chain_laws.specs.Kept.{KeepsLog}
 use Rattle.hm_rules.specs.Replica.{Replica, opened}
-use Rattle.hm_world.specs.GroupFields.{IsMember}
 
 -- the replica that was put in place
 pub get_set : {A : Type 0} (xs : List A) (n : ℕ) (x : A) → n < length xs → slice_get (slice_set xs n x) n ≡ Some x
@@ -33,17 +31,14 @@ one_at [] n less = absurd (omega (arith, less))
 one_at (x ∷ xs) zero less = (x, refl)
 one_at (x ∷ xs) (suc n) less = one_at xs n (omega arith)
 
--- the members stay members in each step of one of them
-pub put_member : (cap : ℕ) (rs : List Replica) (n : ℕ) (old new : Replica) → All (λ (r : Replica). IsMember cap r) rs → slice_get rs n ≡ Some old → (old.staged ≡ None → KeepsLog old new)
-    → All (λ (r : Replica). IsMember cap r) (slice_set rs n new)
-put_member cap rs n old new all here keeps =
-    let before = all_at (λ (r : Replica). IsMember cap r) rs n old all here in
-    let kept = keeps before.unstaged in
-    All-set (λ (r : Replica). IsMember cap r) rs n new (record { cap_is = kept.cap ∙ before.cap_is; unstaged = kept.unstaged }) all
+-- each log keeps its room in a step of one of them
+pub put_member : (cap : ℕ) (rs : List Replica) (n : ℕ) (old new : Replica) → All (λ (r : Replica). r.cap ≡ cap) rs → slice_get rs n ≡ Some old → new.cap ≡ old.cap
+    → All (λ (r : Replica). r.cap ≡ cap) (slice_set rs n new)
+put_member cap rs n old new all here keeps = All-set (λ (r : Replica). r.cap ≡ cap) rs n new (keeps ∙ all_at (λ (r : Replica). r.cap ≡ cap) rs n old all here) all
 
 -- the members of an opened group
-pub all_opened : (cap : ℕ) (members numbers : List ℕ) → All (λ (r : Replica). IsMember cap r) (map (λ me. opened me members cap) numbers)
-all_opened cap members numbers = All-map (λ (r : Replica). IsMember cap r) (λ me. opened me members cap) numbers (λ k d l. record { cap_is = refl; unstaged = refl })
+pub all_opened : (cap : ℕ) (members numbers : List ℕ) → All (λ (r : Replica). r.cap ≡ cap) (map (λ me. opened me members cap) numbers)
+all_opened cap members numbers = All-map (λ (r : Replica). r.cap ≡ cap) (λ me. opened me members cap) numbers (λ k d l. refl)
 
 -- a front of a list is one of each longer list
 pub front_later : {A : Type 0} (front whole longer : List A) → IsPrefix front whole → IsPrefix whole longer → IsPrefix front longer
