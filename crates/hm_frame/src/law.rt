@@ -1,5 +1,5 @@
 ghost use Rattle.std.specs.Prelude.{◌≡◌, ◌++◌, ℕ, List, [], flat_map};
-ghost use Rattle.hm_codec.specs.declared.malformed.Malformed.{Malformed};
+ghost use Rattle.hm_wire.specs.declared.malformed.Malformed.{Malformed};
 ghost use Rattle.hm_frame.specs.Frames.{frame, IsAtFault, Call, Calls, fed, given, IsStuck};
 
 /// What comes out of a stream doesn't depend on how it was cut into pieces, nor on when packets were asked for.

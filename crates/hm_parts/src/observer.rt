@@ -1,7 +1,8 @@
 ghost use Rattle.std.specs.Prelude.{◌≡◌, ◌≤◌, ◌<◌, ◌+◌, ◌++◌, ◌∷◌, [], length, take, map, vec_len, vec_capacity, IfOk, OnOk, OnErr};
 ghost use Rattle.hm_base.specs.Logs.{writes};
 ghost use Rattle.hm_store.specs.Log.{max_log_len};
-ghost use Rattle.hm_rules.specs.Declared.{declared_after, commits_since, commit_of};
+ghost use Rattle.hm_order.specs.Marks.{commit_of};
+ghost use Rattle.hm_rules.specs.Declared.{declared_after, commits_since};
 
 use hm_base::entry::Entry;
 use hm_base::memory::NoMemory;
@@ -76,8 +77,8 @@ impl Observer {
         push(&mut self.history, mark);
     }
 
-    /// The declared list grows to the log's first `to` entries where those are more, and each write that is new in it gives a mark
-    /// Commit.
+    /// The declared list grows to the log's first `to` entries where those are more, and each write that is new in it gives a
+    /// mark Commit.
     pub fn declare(&mut self, log: &Ledger, to: u32)
         requires front { length self.old.declared < to → take (length self.old.declared) log.now.entries ≡ self.old.declared }
         requires few { length log.now.entries ≤ self.old.cap }

@@ -1,7 +1,7 @@
 ghost use Rattle.std.specs.Prelude.{◌≡◌};
 ghost use Rattle.hm_replay.specs.Statuses.{status_of};
 
-use hm_codec::malformed::Reason;
+use hm_wire::malformed::Reason;
 use hm_schedule::line::LineReason;
 use hm_show::show::Shown;
 

@@ -5,8 +5,8 @@ use Rattle.std.specs.List.{AllByRecursion}
 use Rattle.std.specs.Io.KnownBytes.{Consumes, IsAtEnd}
 use Rattle.std.proofs.lemmas.List.{append-nil, length-append, length-drop, take-append-le, drop-append-le}
 use Rattle.hm_packet.specs.Messages.{Message}
-use Rattle.hm_codec.specs.Packets.{HasSpelling, first_fault}
-use Rattle.hm_codec.specs.declared.malformed.Malformed.{Malformed}
+use Rattle.hm_wire.specs.Packets.{HasSpelling, first_fault}
+use Rattle.hm_wire.specs.declared.malformed.Malformed.{Malformed}
 use Rattle.hm_frame.specs.Faults.{Rose}
 use Rattle.hm_frame.specs.Frames.{head_len, frame, payload_len, payload, IsPart, IsAtFault}
 use Rattle.hm_frame.proofs.FrameLemmas.{one_frame, frame_not_stuck, frame_is_whole, frame_is_sound}

@@ -4,8 +4,8 @@ use Rattle.std.specs.List.{AllByRecursion}
 use Rattle.std.specs.Io.KnownBytes.{Appends}
 use Rattle.hm_base.specs.Lists.{IsPrefix}
 use Rattle.hm_packet.specs.Messages.{Message}
-use Rattle.hm_codec.specs.declared.malformed.Malformed.{Malformed}
-use Rattle.hm_codec.specs.Packets.{HasSpelling}
+use Rattle.hm_wire.specs.declared.malformed.Malformed.{Malformed}
+use Rattle.hm_wire.specs.Packets.{HasSpelling}
 use Rattle.hm_frame.specs.Faults.{Rose}
 use Rattle.hm_frame.specs.Frames.{frame, IsPart, IsAtFault, Takes}
 use Rattle.hm_rules.specs.RunText.{packet_lines}

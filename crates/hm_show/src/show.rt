@@ -1,7 +1,7 @@
 ghost use Rattle.std.specs.Prelude.{◌≡◌, ◌≤◌, ◌⊎◌, List, Some, length, flat_map, IfOk, vec_len};
 ghost use Rattle.std.specs.List.{AllByRecursion};
 ghost use Rattle.hm_packet.specs.Messages.{Message};
-ghost use Rattle.hm_codec.specs.Packets.{HasSpelling};
+ghost use Rattle.hm_wire.specs.Packets.{HasSpelling};
 ghost use Rattle.hm_frame.specs.Faults.{Rose};
 ghost use Rattle.hm_frame.specs.Frames.{frame};
 ghost use Rattle.hm_show.specs.Shows.{max_frames, shown_of, Shows};
@@ -10,7 +10,7 @@ ghost use Rattle.hm_show.specs.Steps.{TakesFrames, Closes, Puts};
 use crate::text::{write_closing, write_next_line};
 use crate::verdict::{Verdict, verdict_at_end};
 use hm_base::memory::NoMemory;
-use hm_codec::malformed::Malformed;
+use hm_wire::malformed::Malformed;
 use hm_frame::frame::Unframer;
 use hm_frame::outside::{Sink, Source, put_all};
 use std::alloc::Global;

@@ -1,5 +1,5 @@
 use crate::show::{MAX_FRAMES, Shown, show};
-use hm_codec::malformed::{Malformed, Reason};
+use hm_wire::malformed::{Malformed, Reason};
 use hm_frame::memory::{MemorySink, MemorySource};
 use hm_frame::outside::{Failed, Source};
 use hm_frame::sure::{SureSink, SureSource};
