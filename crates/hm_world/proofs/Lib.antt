@@ -1,6 +1,5 @@
 pub mod Numbered
 pub mod SlotLemmas
-pub mod ReplicaLemmas
 pub mod GroupLemmas
 pub mod TurnLemmas
 pub mod StateLemmas

@@ -24,6 +24,7 @@ use Rattle.hm_rules.specs.Service.{is_fixed}
 use Rattle.hm_rules.specs.Viewstamped.{vr_timeout}
 use Rattle.hm_rules.specs.Happens as rules
 use Rattle.hm_base.specs.declared.entry.Entry.{Entry}
+use Rattle.hm_base.proofs.ListLaws.{prefix_is_take, set_same}
 use Rattle.hm_base.specs.Lists.{IsPrefix}
 use Rattle.hm_packet.specs.declared.outcome.Outcome.{Outcome}
 use Rattle.hm_parts.specs.Seen.{Posted, Noted}
@@ -31,7 +32,6 @@ use Rattle.hm_world.specs.declared.state.State.{State}
 use Rattle.hm_world.specs.Grouped.{Grouped, IsGroupStep}
 use Rattle.hm_world.specs.Settled.{live_bar, settled}
 use Rattle.hm_world.specs.StateFields.{world_of, HasRoom, Quietly}
-use Rattle.hm_world.proofs.ReplicaLemmas.{get_set, front_taken}
 
 -- ---- who can act
 
@@ -131,7 +131,7 @@ pub acts : (old new : State) (o : Outcome) (g : Grouped) (number : ℕ) (acted :
     → ((r : Replica) → slice_get g.replicas number ≡ Some r → Quietly (stepped_to old g) new o (settled (world_of (stepped_to old g)) r.log acted acted.did)) → Quietly old new o (arrival.at_replica (world_of old) number s)
 acts old new o g number acted s r here step settle =
     let w : World = world_of old in
-    let there : slice_get g.replicas number ≡ Some s.replica = ap (λ (x : Grouped). slice_get x.replicas number) step.same ∙ get_set old.group.replicas number s.replica (slice_get_within old.group.replicas number r here) in
+    let there : slice_get g.replicas number ≡ Some s.replica = ap (λ (x : Grouped). slice_get x.replicas number) step.same ∙ set_same old.group.replicas number s.replica r here in
     let q = settle s.replica there in
     let mid : world_of (stepped_to old g) ≡ half w number s.replica = ap (λ (x : Grouped). world_of (stepped_to old x)) step.same in
     let still : s.did ≢ did.Done → half w number s.replica ≡ w = λ ne. sym mid ∙ ap (λ (x : Grouped). world_of (stepped_to old x)) (step.idle ne) in
@@ -162,14 +162,14 @@ settles_done old log acted seen net first count seen_is net_is first_is count_is
 front_is : (declared log : List Entry) (to : ℕ) → IsPrefix declared (declared_after declared log to) → length declared < to → take (length declared) log ≡ declared
 front_is declared log to p more =
     let longer : declared_after declared log to ≡ take to log = cond-true (nat_lt (length declared) to) (take to log) declared (lt-ltb (length declared) to more) in
-    sym (take-take (length declared) to log (omega (arith, more))) ∙ ap (take (length declared)) (sym longer) ∙ front_taken declared (declared_after declared log to) p
+    sym (take-take (length declared) to log (omega (arith, more))) ∙ ap (take (length declared)) (sym longer) ∙ prefix_is_take p
 
 -- the log of the replica that made a step goes on from the declared list as far as it is declared
 pub front : (old : State) (g : Grouped) (number : ℕ) (acted : Acted) (s : Stepped) (r : Replica) → slice_get old.group.replicas number ≡ Some r → IsGroupStep old.group g number acted s
     → (s.did ≡ did.Done → IsPrefix old.observer.declared (declared_after old.observer.declared s.replica.log s.declared.to))
     → (q : Replica) → slice_get g.replicas number ≡ Some q → acted.did ≡ did.Done → length old.observer.declared < acted.declared.to → take (length old.observer.declared) q.log ≡ old.observer.declared
 front old g number acted s r here step ready q at done more =
-    let there : slice_get g.replicas number ≡ Some s.replica = ap (λ (x : Grouped). slice_get x.replicas number) step.same ∙ get_set old.group.replicas number s.replica (slice_get_within old.group.replicas number r here) in
+    let there : slice_get g.replicas number ≡ Some s.replica = ap (λ (x : Grouped). slice_get x.replicas number) step.same ∙ set_same old.group.replicas number s.replica r here in
     let same : s.replica ≡ q = same_Some _ _ (sym there ∙ at) in
     let less : length old.observer.declared < s.declared.to = subst (λ (d : Declared). length old.observer.declared < d.to) step.gives.declared more in
     subst (λ (x : Replica). take (length old.observer.declared) x.log ≡ old.observer.declared) same (front_is old.observer.declared s.replica.log s.declared.to (ready (sym step.gives.did ∙ done)) less)

@@ -1,7 +1,7 @@
 ghost use Rattle.std.specs.Prelude.{◌≡◌, ◌<◌, ◌≤◌, length, slice_get, true, Some, map, IfOk};
 ghost use Rattle.hm_rules.specs.Deliveries.{replica_step, replica_tick};
 ghost use Rattle.hm_rules.specs.Replica.{Replica, opened};
-ghost use Rattle.hm_rules.specs.Service.{is_fixed, replicas_below};
+ghost use Rattle.hm_rules.specs.Service.{is_fixed};
 ghost use Rattle.hm_rules.specs.Viewstamped.{vr_timeout};
 ghost use Rattle.hm_store.specs.Log.{max_log_len};
 ghost use Rattle.hm_world.specs.Grouped.{GroupSteps, StepsAt};
@@ -45,21 +45,19 @@ impl Model for Group {
 }
 
 impl Group {
-    /// The replicas of a group of this size before their first packets. All their memory is taken here.
+    /// The replicas of a group of these members before their first packets. All their memory is taken here.
     pub fn open(
         alloc: Global,
         kind: GroupKind,
-        size: u8,
         cap: u32,
         members: &hm_base::members::Members,
     ) -> Result<Group, NoMemory>
         requires built { is_built kind ≡ true }
-        requires few { size ≤ 7 }
         requires bounded { cap ≤ max_log_len }
-        ensures { IfOk result (λ g. g ≡ record { kind = kind; cap = cap; replicas = map (λ me. opened me members.now cap) (replicas_below size) }) }
+        ensures { IfOk result (λ g. g ≡ record { kind = kind; cap = cap; replicas = map (λ me. opened me members.now cap) members.now }) }
     {
         let members = match kind {
-            GroupKind::Chain => Members::Chain(open_chains(alloc, size, cap, members)?),
+            GroupKind::Chain => Members::Chain(open_chains(alloc, cap, members)?),
             GroupKind::Primary | GroupKind::Vr => unreachable!(),
         };
         Ok(Group { members, cap })
@@ -134,17 +132,15 @@ impl Group {
 /// The members of a chain before their first packets.
 fn open_chains(
     alloc: Global,
-    size: u8,
     cap: u32,
     members: &hm_base::members::Members,
 ) -> Result<Vec<Chain>, NoMemory>
-    requires few { size ≤ 7 }
-    requires bounded { cap ≤ max_log_len }
-    ensures { IfOk result (λ rs. rs.items ≡ map (λ me. opened me members.now cap) (replicas_below size)) }
+    requires { cap ≤ max_log_len }
+    ensures { IfOk result (λ rs. rs.items ≡ map (λ me. opened me members.now cap) members.now) }
 {
-    let mut replicas = Vec::with_capacity(alloc, size as usize)?;
-    for me in 0..size {
-        replicas.push(Chain::open(alloc, me, members, cap)?)?;
+    let mut replicas = Vec::with_capacity(alloc, members.len() as usize)?;
+    for me in members.as_slice() {
+        replicas.push(Chain::open(alloc, *me, members, cap)?)?;
     }
     Ok(replicas)
 }

@@ -53,7 +53,7 @@ impl State {
         }
         let service = Service::open(setup.kind, setup.size);
         let route = service.route();
-        let group = Group::open(alloc, setup.kind, setup.size, setup.cap, service.members())?;
+        let group = Group::open(alloc, setup.kind, setup.cap, service.members())?;
         Ok(State {
             setup: *setup,
             net: Net::new(alloc),
