@@ -100,11 +100,11 @@ turned_outcome w n s turn.Full = refl
 turned_outcome w n s turn.Spent = refl
 
 turned_keeps : (old : State) (r : Running) (made : Turn) → r.steps ≡ old.switches.steps + 1 → Keeps old (turned_to old r made)
-turned_keeps old r (turn.Sent p) steps = record { events = refl; net = refl; steps = omega (arith, steps); clients = omega arith; service = refl }
-turned_keeps old r turn.Noted steps = record { events = refl; net = refl; steps = omega (arith, steps); clients = omega arith; service = refl }
-turned_keeps old r (turn.Ignored reason) steps = record { events = refl; net = refl; steps = omega (arith, steps); clients = omega arith; service = refl }
-turned_keeps old r turn.Full steps = record { events = refl; net = refl; steps = omega (arith, steps); clients = omega arith; service = refl }
-turned_keeps old r turn.Spent steps = record { events = refl; net = refl; steps = omega (arith, steps); clients = omega arith; service = refl }
+turned_keeps old r (turn.Sent p) steps = record { events = refl; net = refl; steps = omega (arith, steps); clients = omega arith; service = refl; group = refl }
+turned_keeps old r turn.Noted steps = record { events = refl; net = refl; steps = omega (arith, steps); clients = omega arith; service = refl; group = refl }
+turned_keeps old r (turn.Ignored reason) steps = record { events = refl; net = refl; steps = omega (arith, steps); clients = omega arith; service = refl; group = refl }
+turned_keeps old r turn.Full steps = record { events = refl; net = refl; steps = omega (arith, steps); clients = omega arith; service = refl; group = refl }
+turned_keeps old r turn.Spent steps = record { events = refl; net = refl; steps = omega (arith, steps); clients = omega arith; service = refl; group = refl }
 
 pub turns : (old : State) (r : Running) (made : Turn) (n : ℕ) (m : Message) (s : AbstractSwitch) → switch_at (world_of old) n ≡ Some s → IsTurn old.switches r n made s m
     → Ends old (turned_to old r made) (told_by made (length old.net.packets)) (to_switch (finds_full_in (slotted_of old) n m.body) (world_of old) m n (switch_at (world_of old) n))
