@@ -7,5 +7,3 @@ pub mod law;
 pub mod memory;
 pub mod outside;
 pub mod sure;
-#[cfg(test)]
-mod tests;

@@ -1,4 +1,4 @@
-ghost use Rattle.std.specs.Prelude.{◌≡◌, ◌≢◌, ◌≤◌, ◌⊎◌, ℕ, List, [], ◌∷◌, length, Some, codes, flat_map, map, string_bytes};
+ghost use Rattle.std.specs.Prelude.{◌≡◌, ◌≢◌, ◌+◌, ◌≤◌, ◌⊎◌, ℕ, List, [], ◌∷◌, length, Some, codes, flat_map, map, string_bytes};
 ghost use Rattle.std.specs.List.{AllByRecursion};
 ghost use Rattle.hm_packet.specs.Messages.{Message};
 ghost use Rattle.hm_wire.specs.Packets.{HasSpelling};
@@ -10,8 +10,8 @@ ghost use Rattle.hm_schedule.specs.Reasons.{reason_text};
 ghost use Rattle.hm_replay.specs.Closings.{Closes};
 ghost use Rattle.hm_replay.specs.Statuses.{Ends, EndsShow};
 ghost use Rattle.hm_frame.specs.Faults.{Rose};
-ghost use Rattle.hm_replay.specs.Replays.{IsWholeRun, IsBadRun, IsCutRun, IsPartialRun};
-ghost use Rattle.hm_schedule.specs.Orders.{IsSchedule, lines_text};
+ghost use Rattle.hm_replay.specs.Replays.{IsWholeRun, IsBadRun, BreaksOff};
+ghost use Rattle.hm_schedule.specs.Orders.{IsBegun, IsSchedule, lines_text};
 ghost use Rattle.hm_schedule.specs.declared.line.Line.{Line};
 ghost use Rattle.hm_schedule.specs.declared.line.LineReason.{LineReason};
 
@@ -41,22 +41,29 @@ pub fn run<S: Source, K: Sink>(
     // BadWords comes exactly where the words are no command.
     ensures command { result ≢ Status.BadWords → (map string_bytes words.now ≡ codes "replay" ∷ []) ⊎ (map string_bytes words.now ≡ codes "show" ∷ []) }
     ensures no_command { (map string_bytes words.now ≡ codes "replay" ∷ []) ⊎ (map string_bytes words.now ≡ codes "show" ∷ []) → result ≢ Status.BadWords }
-    ensures no_limit { (line : ℕ) → map string_bytes words.now ≡ codes "replay" ∷ [] → result ≢ Status.TooLong line }
     ensures untouched { result ≡ Status.BadWords → (source.new ≡ source.old) × (sink.new ≡ sink.old) }
 
     // A fault comes only where the device's count rose in this call.
     ensures read_fault { result ≡ Status.ReadFault → Rose (S.faults source.old) (S.faults source.new) }
     ensures write_fault { result ≡ Status.WriteFault → Rose (K.faults sink.old) (K.faults sink.new) }
 
-    // What a replay read, and what it put.
+    // Every status that a replay ends with, and what it owes: no other comes.
+    ensures replay { map string_bytes words.now ≡ codes "replay" ∷ []
+        → Ends result (S.left source.old) (S.left source.new) (K.held sink.old) (K.held sink.new)
+        (record { read_before = S.faults source.old; read_after = S.faults source.new; put_before = K.faults sink.old; put_after = K.faults sink.new }) }
+
+    // A whole run: what it read and put, and that the order which it puts is lawful.
     ensures done { map string_bytes words.now ≡ codes "replay" ∷ [] → result ≡ Status.Done
         → IsWholeRun (S.left source.old) (S.left source.new) (K.held sink.old) (K.held sink.new) }
     ensures bad_line { (line : ℕ) → (reason : LineReason) → result ≡ Status.BadLine line reason
         → IsBadRun (S.left source.old) (K.held sink.old) (K.held sink.new) line reason }
-    ensures cut { map string_bytes words.now ≡ codes "replay" ∷ [] → result ≡ Status.ReadFault
-        → IsCutRun (S.left source.old) (S.left source.new) (K.held sink.old) (K.held sink.new) }
-    ensures partial { map string_bytes words.now ≡ codes "replay" ∷ [] → (result ≡ Status.WriteFault) ⊎ (result ≡ Status.NoMemory)
-        → IsPartialRun (S.left source.old) (S.left source.new) (K.held sink.old) (K.held sink.new) }
+
+    // BadLine comes wherever a source tells bytes that break off, and names the line there, unless a device fails or memory is wanting.
+    ensures breaks { (begun : List Line) → (bytes : List ℕ) → IsBegun begun → BreaksOff begun bytes → S.left source.old ≡ Some bytes
+        → map string_bytes words.now ≡ codes "replay" ∷ []
+        → (Rose (S.faults source.old) (S.faults source.new) → ⊥)
+        → (Rose (K.faults sink.old) (K.faults sink.new) → ⊥)
+        → (result ≡ Status.BadLine (length begun + 1) LineReason.Word) ⊎ (result ≡ Status.NoMemory) }
 
     // A schedule that is read without a fault, and whose text is put without one, is replayed whole, unless memory is wanting.
     ensures complete { (lines : List Line) → IsSchedule lines → S.left source.old ≡ Some (lines_text lines)
@@ -65,7 +72,7 @@ pub fn run<S: Source, K: Sink>(
         → (Rose (K.faults sink.old) (K.faults sink.new) → ⊥)
         → (result ≡ Status.Done) ⊎ (result ≡ Status.NoMemory) }
 
-    // What a show read, and what it put.
+    // Every status that a show ends with, and what it read and put then: no other comes.
     ensures show { map string_bytes words.now ≡ codes "show" ∷ []
         → EndsShow result (S.left source.old) (S.left source.new) (K.held sink.old) (K.held sink.new)
         (record { read_before = S.faults source.old; read_after = S.faults source.new; put_before = K.faults sink.old; put_after = K.faults sink.new }) }

@@ -7,5 +7,3 @@ pub mod keyword;
 pub mod limits;
 pub mod line;
 mod reads;
-#[cfg(test)]
-mod tests;

@@ -1,8 +1,8 @@
-use crate::show::{MAX_FRAMES, Shown, show};
-use hm_wire::malformed::{Malformed, Reason};
 use hm_frame::memory::{MemorySink, MemorySource};
 use hm_frame::outside::{Failed, Source};
 use hm_frame::sure::{SureSink, SureSource};
+use hm_show::show::{MAX_FRAMES, Shown, show};
+use hm_wire::malformed::{Malformed, Reason};
 use std::alloc::Global;
 use std::test::Fail;
 

@@ -1,9 +1,9 @@
-use crate::frame::{Unframer, frame};
 use hm_base::node::Node;
 use hm_codec::buf::Buf;
-use hm_wire::malformed::{Malformed, Reason};
+use hm_frame::frame::{Unframer, frame};
 use hm_packet::body::{Body, Read};
 use hm_packet::packet::Packet;
+use hm_wire::malformed::{Malformed, Reason};
 use std::alloc::Global;
 use std::test::Fail;
 
