@@ -46,7 +46,7 @@ use Rattle.hm_rules.specs.World.{Client, World, Happened, barred, ignored_at, ta
 use Rattle.hm_rules.specs.Deliveries.{fits, answered, on_reply, to_client, with_switch, turned, to_switch, replica_step, replica_tick, acted, at_replica, to_replica, noted, to_node, deliver}
 use Rattle.hm_rules.specs.Happens.{asks, request_to, invoked, invokes, resends, at_live, stops, serviced, removal, starts_or, start, raw, passed, next, drops, happens}
 use Rattle.hm_core_laws.specs.Sourced.{puts}
-use Rattle.hm_core_laws.specs.Packets.{op, WasAsked, IsAnswer, BodyHolds, Holds}
+use Rattle.hm_core_laws.specs.Packets.{op, WasAsked, BodyHolds, Holds}
 use Rattle.hm_core_laws.specs.Core.{ClientHolds, Core}
 use Rattle.hm_core_laws.specs.Changes.{Origin, IsStep}
 use Rattle.hm_core_laws.specs.Owed.{StepSound, StepsSound}
@@ -132,11 +132,11 @@ module _ (laws : DueLaws) (w : World) (core : Core w) where
       let k : Client = client_of w c in
       core_posts laws w core (request_to k asked s ∷ []) (request_unnumbered k asked s) (request_holds w.history w.declared (w.net ++ request_to k asked s ∷ []) k asked s ((core.clients c).waits asked e).invoked)
 
-  core_answered : (c : ℕ) (reply : Reply) (asked : Want) → (client_of w c).outstanding ≡ Some asked → (client_of w c).request ≡ reply.request → IsAnswer w.history (op c reply.request) (reply.version, reply.answer) → Core (answered w (client_of w c) reply)
+  core_answered : (c : ℕ) (reply : Reply) (asked : Want) → (client_of w c).outstanding ≡ Some asked → (client_of w c).request ≡ reply.request → IsDueNow w.history (op c reply.request) (reply.version, reply.answer) → Core (answered w (client_of w c) reply)
   core_answered c reply asked waiting same x =
       let k : Client = client_of w c in
       let here : op c reply.request ≡ op k.client k.request = ap (λ (n : ℕ). op n reply.request) (sym (core.clients c).client) ∙ ap (λ (n : ℕ). op k.client n) (sym same) in
-      let due : IsDueNow w.history (op k.client k.request) (reply.version, reply.answer) = subst (λ (o : OpId). IsDueNow w.history o (reply.version, reply.answer)) here x.due in
+      let due : IsDueNow w.history (op k.client k.request) (reply.version, reply.answer) = subst (λ (o : OpId). IsDueNow w.history o (reply.version, reply.answer)) here x in
       let h : List Mark = w.history ++ mark.Reply (op k.client k.request) reply.version reply.answer ∷ [] in
       let agree : Agree h w.declared = laws.reply w.history w.declared (op k.client k.request) (reply.version, reply.answer) core.agree unanswered due in
       let after : Core (record w { clients = with_client (record k { outstanding = None }) w.clients; history = h }) =
@@ -152,7 +152,7 @@ module _ (laws : DueLaws) (w : World) (core : Core w) where
         | inr ge ↦ ge
       ]
 
-  core_on_reply : (c : ℕ) (reply : Reply) (o : Option Want) → (client_of w c).outstanding ≡ o → IsAnswer w.history (op c reply.request) (reply.version, reply.answer) → Core (on_reply w (client_of w c) reply o).world
+  core_on_reply : (c : ℕ) (reply : Reply) (o : Option Want) → (client_of w c).outstanding ≡ o → IsDueNow w.history (op c reply.request) (reply.version, reply.answer) → Core (on_reply w (client_of w c) reply o).world
   core_on_reply c reply None e x = core
   core_on_reply c reply (Some asked) e x =
       let k : Client = client_of w c in

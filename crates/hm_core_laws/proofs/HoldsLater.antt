@@ -22,7 +22,7 @@ use Rattle.hm_core_laws.specs.Packets.{op, BodyHolds, Holds}
 use Rattle.hm_core_laws.specs.Core.{SwitchHolds, ListHolds, ReplicaHolds}
 use Rattle.hm_core_laws.proofs.Laws.{Staying}
 use Rattle.hm_core_laws.proofs.Sources.{sourced_later, all_sourced_later}
-use Rattle.hm_order.proofs.Positions.{invoked_later, want_later}
+use Rattle.hm_order.proofs.Positions.{want_later}
 
 module _ {h h' : List Mark} {k k' : List Entry} {net net' : List Message} (staying : Staying) (f : IsPrefix h h') (p : IsPrefix k k') (q : IsPrefix net net') (formed : IsWellFormed h) where
   body_later : (src dst : Node) (b : Body) → BodyHolds h k net src dst b → BodyHolds h' k' net' src dst b
@@ -32,11 +32,7 @@ module _ {h h' : List Mark} {k k' : List Entry} {net net' : List Message} (stayi
   body_later src dst (body.FastRead read) x = staying.fresh h h' k k' (op read.client read.request) read.object read.stamp f p formed x
   body_later src dst (body.NormalRead read) x = want_later (op read.client read.request) (want.Read read.object) f x
   body_later src dst (body.Done done) x = record { place = x.place; entry = x.entry; there = prefix_at x.place x.entry p x.there; write = x.write; stamp = x.stamp; operation = x.operation }
-  body_later src dst (body.Reply reply) x = record {
-    invoked = (let e : invoked_at h' (op (number dst) reply.request) ≡ invoked_at h (op (number dst) reply.request) = invoked_later (op (number dst) reply.request) f x.invoked in
-        let l : invoked_at h (op (number dst) reply.request) < length h = x.invoked in omega (arith, prefix-length f));
-    due = staying.due h h' (op (number dst) reply.request) (reply.version, reply.answer) f formed x.due;
-  }
+  body_later src dst (body.Reply reply) x = staying.due h h' (op (number dst) reply.request) (reply.version, reply.answer) f formed x
   body_later src dst (body.Ask ask) x = record { object = x.object; value = x.value; asked = want_later (op ask.client ask.request) (want.Write x.object x.value) f x.asked }
   body_later src dst (body.Feed feed) x = all_sourced_later feed.entries f q x
   body_later src dst (body.Page page) x = all_sourced_later page.entries f q x

@@ -26,7 +26,6 @@ use Rattle.hm_core_laws.specs.Core.{ReplicaHolds, Core}
 use Rattle.hm_core_laws.specs.Owed.{declared_by, StepSound}
 use Rattle.hm_core_laws.proofs.Laws.{Staying}
 use Rattle.hm_core_laws.proofs.HoldsLater.{all_hold_later}
-use Rattle.hm_order.proofs.Positions.{want_invoked}
 
 -- ---- a step that leaves the lists
 
@@ -67,10 +66,7 @@ module _ (look : LookAnswerIsDue) (h : List Mark) (k : List Entry) (net : List M
 
       by_act : (x : Act) → e.act ≡ x → Holds h k net (answer_act after e x)
       by_act (act.Put value) s = completion e i there (ap is_put s)
-      by_act act.Look s = record {
-        invoked = want_invoked h (op_of e) (wanted e.object e.act) (each_at (WasInvoked h) k i e agree.records.invoked there);
-        due = look h k (take to r.log) i e agree.records agree.looks p a (ap is_put s);
-      }
+      by_act act.Look s = look h k (take to r.log) i e agree.records agree.looks p a (ap is_put s)
 
   pub answers_hold : All (Holds h k net) (declares r from to).outs
   unfolding after

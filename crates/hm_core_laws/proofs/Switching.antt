@@ -40,7 +40,6 @@ use Rattle.hm_core_laws.proofs.Sources.{IsUnnumbered, unnumbered, puts_append, p
 use Rattle.hm_core_laws.proofs.Laws.{DueLaws}
 use Rattle.hm_core_laws.proofs.HoldsLater.{switch_later}
 use Rattle.hm_core_laws.proofs.Switches.{stands_behind}
-use Rattle.hm_order.proofs.Positions.{want_invoked}
 
 -- the switch sent a true packet, which gives no other switch a number
 pub record SentHolds (h : List Mark) (k : List Entry) (net : List Message) (n : ℕ) (s : AbstractSwitch) (p : Message) : Type 0 where
@@ -164,10 +163,7 @@ module _ (laws : DueLaws) (h : List Mark) (k : List Entry) (net : List Message) 
   answers_turn s done x c =
       let asked : WasInvoked h c.entry = each_at (WasInvoked h) k c.place c.entry agree.records.invoked c.there in
       let due : IsDueNow h (op_of c.entry) (c.entry.stamp, Wrote) = laws.completion h k c.place c.entry agree.records c.there c.write in
-      sends s (node.Client done.client) (body.Reply (record { request = done.request; version = done.stamp; answer = Wrote })) tt x (record {
-        invoked = subst (λ (o : OpId). invoked_at h o < length h) c.operation (want_invoked h (op_of c.entry) (wanted c.entry.object c.entry.act) asked);
-        due = subst (λ (o : OpId). IsDueNow h o (done.stamp, Wrote)) c.operation (subst (λ (t : Stamp). IsDueNow h (op_of c.entry) (t, Wrote)) c.stamp due);
-      })
+      sends s (node.Client done.client) (body.Reply (record { request = done.request; version = done.stamp; answer = Wrote })) tt x (subst (λ (o : OpId). IsDueNow h o (done.stamp, Wrote)) c.operation (subst (λ (t : Stamp). IsDueNow h (op_of c.entry) (t, Wrote)) c.stamp due))
 
   -- the point rises to a number of its own whose write is declared
   raised : (s : AbstractSwitch) (done : Done) → SwitchHolds k net n s → IsCompletion k done → done.stamp.switch ≡ s.id → done.stamp.seq ≤ length s.numbered → SwitchHolds k net n (record s { point = max s.point done.stamp.seq })

@@ -34,7 +34,6 @@ use Rattle.hm_view_laws.specs.Leads.{Lead}
 use Rattle.hm_primary_laws.specs.Led.{BackupHolds, RoleHolds, MemberHolds, CommitHolds, Fits, GroupHolds, SettledHolds}
 use Rattle.hm_primary_laws.proofs.Grows.{grew_same}
 use Rattle.hm_primary_laws.proofs.Parts.{Acts, Says, AllSaid, MemberStep, Becomes, says_none, says_one, says_both, says_each, says_now, commit_is, page_said, changed, silently}
-use Rattle.hm_order.proofs.Positions.{want_invoked}
 
 -- ---- more is known
 
@@ -156,10 +155,7 @@ module _ (w : World) (n : ℕ) (r : Replica) (a : Acts w n r) where
   answers_whole : is_primary r ≡ true → is_settled r ≡ true → (read : NormalRead) → WasAsked w.history read.client read.request (want.Read read.object) → MemberStep w n r a (sends r (read_reply r read.client read.request (latest (applied r) read.object) ∷ []))
   answers_whole t s read was =
       let reply : Message = read_reply r read.client read.request (latest (applied r) read.object) in
-      says (reply ∷ []) (now reply refl (record {
-        invoked = want_invoked w.history (op read.client read.request) (want.Read read.object) was;
-        due = subst (λ (l : List Entry). IsDueNow w.history (op read.client read.request) (latest l read.object)) (sym (whole t s)) (a.laws.whole w.history w.declared (op read.client read.request) read.object a.core.agree.records was);
-      }) tt)
+      says (reply ∷ []) (now reply refl (subst (λ (l : List Entry). IsDueNow w.history (op read.client read.request) (latest l read.object)) (sym (whole t s)) (a.laws.whole w.history w.declared (op read.client read.request) read.object a.core.agree.records was)) tt)
 
   pub normal_read_row : (read : NormalRead) → WasAsked w.history read.client read.request (want.Read read.object) → Fine (primary_normal_read r read)
   normal_read_row read was =
@@ -171,10 +167,7 @@ module _ (w : World) (n : ℕ) (r : Replica) (a : Acts w n r) where
   pub stamped : (read : FastRead) (o : Option (Stamp × Answer)) → read_ahead r.accepted r.log read.stamp read.object ≡ o → IsFresh w.history w.declared (op read.client read.request) read.object read.stamp → Fine (stamped_read o (first_member r) (primary_normal_read r) r read)
   stamped read (Some found) e fresh = λ d.
       let reply : Message = read_reply r read.client read.request found in
-      says (reply ∷ []) (now reply refl (record {
-        invoked = want_invoked w.history (op read.client read.request) (want.Read read.object) fresh.read;
-        due = a.laws.ahead w.history w.declared r.log (op read.client read.request) read.object r.accepted read.stamp found a.core.agree.records fresh.read fresh.point (a.primary.group.prefix n r a.there a.live) lists.log.tidy e;
-      }) tt)
+      says (reply ∷ []) (now reply refl (a.laws.ahead w.history w.declared r.log (op read.client read.request) read.object r.accepted read.stamp found a.core.agree.records fresh.read fresh.point (a.primary.group.prefix n r a.there a.live) lists.log.tidy e) tt)
   stamped read None e fresh =
       let passed : Message = to r (node.Replica (first_member r)) (body.NormalRead (as_normal read)) in
       cond_both (first_member r == r.me) (primary_normal_read r (as_normal read)) (sends r (passed ∷ [])) Fine (λ t. normal_read_row (as_normal read) fresh.read) (λ t d. says (passed ∷ []) (now passed refl fresh.read tt))

@@ -64,7 +64,6 @@ use Rattle.hm_packet.specs.declared.body.Body.TheVariants as body
 use Rattle.hm_base.specs.declared.verdict.Admit.TheVariants as admit
 use Rattle.hm_base.specs.declared.verdict.Verdict.TheVariants as verdict
 use Rattle.hm_order.specs.declared.mark.Want.TheVariants as want
-use Rattle.hm_order.proofs.Positions.{want_invoked}
 
 -- the commit rule changes what is known alone
 abbrev Like : Replica → Replica → Type 0
@@ -157,11 +156,8 @@ module _ (w : World) (core : Core w) (before : Ghost) (n : ℕ) (small : n < len
           let here : At (applied r) index e = applied_at index e at below in
           let invoked : want_of w.history (op_of e) ≡ Some (wanted e.object e.act) = each_at (WasInvoked w.history) w.declared index e core.agree.records.invoked (prefix_at index e applied_is here) in
           let object : e.object ≡ read.object = look_object e.object read.object e.act reads (some_same (sym invoked ∙ ap (λ (o : OpId). want_of w.history o) operation ∙ was)) in
-          says reply tt (record {
-            invoked = want_invoked w.history (op read.client read.request) (want.Read read.object) was;
-            due = subst (λ (o : ℕ). IsDueNow w.history (op read.client read.request) (latest (applied r) o)) object
-                (subst (λ (o : OpId). IsDueNow w.history o (latest (applied r) e.object)) operation (h.laws.look w.history w.declared (applied r) index e core.agree.records core.agree.looks applied_is here reads));
-          }) refl)
+          says reply tt (subst (λ (o : ℕ). IsDueNow w.history (op read.client read.request) (latest (applied r) o)) object
+              (subst (λ (o : OpId). IsDueNow w.history o (latest (applied r) e.object)) operation (h.laws.look w.history w.declared (applied r) index e core.agree.records core.agree.looks applied_is here reads))) refl)
         where
           look_object : (a b : ℕ) (x : Act) → is_put x ≡ false → wanted a x ≡ want.Read b → a ≡ b
           look_object a b (act.Put v) e s = absurd (false≢true (sym e))
@@ -186,10 +182,7 @@ module _ (w : World) (core : Core w) (before : Ghost) (n : ℕ) (small : n < len
 
   stamped : NoneAbove w.history r.accepted → (read : FastRead) (o : Option (Stamp × Answer)) → read_behind r.accepted (applied r) read.stamp read.object ≡ o → IsFresh w.history w.declared (op read.client read.request) read.object read.stamp
       → Row (stamped_read o (primary_of r r.view) (vr_normal_read r) r read)
-  stamped none read (Some found) e fresh = λ d. says (read_reply r read.client read.request found) tt (record {
-    invoked = want_invoked w.history (op read.client read.request) (want.Read read.object) fresh.read;
-    due = h.laws.behind w.history w.declared (applied r) (op read.client read.request) read.object r.accepted read.stamp found core.agree.records applied_is fresh none e;
-  }) refl
+  stamped none read (Some found) e fresh = λ d. says (read_reply r read.client read.request found) tt (h.laws.behind w.history w.declared (applied r) (op read.client read.request) read.object r.accepted read.stamp found core.agree.records applied_is fresh none e) refl
   stamped none read None e fresh =
       let passed : Message = to r (node.Replica (primary_of r r.view)) (body.NormalRead (as_normal read)) in
       cond_both (primary_of r r.view == r.me) (vr_normal_read r (as_normal read)) (sends r (passed ∷ [])) Row (λ t. normal_read_row (as_normal read) fresh.read) (λ t d. says passed tt fresh.read refl)
