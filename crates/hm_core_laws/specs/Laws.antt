@@ -12,7 +12,7 @@ use Rattle.hm_rules.specs.Replica.{Replica, opened, applied}
 use Rattle.hm_rules.specs.ReplicaSteps.{Stepped, sends, declares}
 use Rattle.hm_rules.specs.Service.{removes, replicas_below}
 use Rattle.hm_rules.specs.Events.{Setup}
-use Rattle.hm_rules.specs.World.{World, is_stopped, opened_replicas, opens}
+use Rattle.hm_rules.specs.World.{World, is_stopped, opens}
 use Rattle.hm_rules.specs.Deliveries.{stepped}
 use Rattle.hm_rules.specs.Happens.{serviced}
 use Rattle.hm_core_laws.specs.Sourced.{IsSourced}

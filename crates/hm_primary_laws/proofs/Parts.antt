@@ -1,6 +1,6 @@
 -- Parts of the steps of a live replica: what it sends, its state in the middle of a step, and the two ways in which a step ends, with
 -- or without the commit rule.
-use Rattle.std.proofs.Common.{◌≡◌, ℕ, ◌-◌, ◌<◌, ◌≤◌, true, false, List, [], ◌∷◌, ◌++◌, length, map, take, drop, refl, sym, subst, arith}
+use Rattle.std.proofs.Common.{◌≡◌, ℕ, ◌-◌, ◌<◌, ◌≤◌, true, false, List, [], ◌∷◌, ◌++◌, length, map, take, drop, refl, sym, subst}
 use Rattle.std.specs.Prelude.{max, ◌&&◌, nat_lt, nat_le, IsTrue, slice_set, All}
 use Rattle.std.proofs.lemmas.Bool.{cond_both, and_parts, ltb-true, leb-true}
 use Rattle.std.proofs.lemmas.List.Elements.{All-nil, All-cons, All-append, All-take, All-drop, All-map}
