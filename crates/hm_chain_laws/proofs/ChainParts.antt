@@ -145,18 +145,14 @@ module _ (w : World) (n : ℕ) (r : Replica) (a : Acts w n r) where
     none_staged : ListHolds w.history w.net (held [] new.staged)
     none_staged = subst (λ (o : Option (List Entry)). ListHolds w.history w.net (held [] o)) (sym b.holds.unstaged) (record { sourced = All-nil (IsSourced w.history w.net); tidy = record { stamps = tt; requests = tt } })
 
-    undeclared : (log : List Entry) → declared_after w.declared log 0 ≡ w.declared
-    undeclared log = cond_both (nat_lt (length w.declared) 0) (take 0 log) w.declared (λ (l : List Entry). l ≡ w.declared)
-        (λ t. absurd (let below : length w.declared < 0 = ltb-true (length w.declared) 0 t in omega arith)) (λ t. refl)
-
     pub silently : (outs : List Message) → (is_tail new ≡ true → new.log ≡ w.declared) → Sends w n r a new outs → MemberStep w n r a (sends new outs)
     silently outs tail x = record {
       sound = a.laws.quiet w n new outs a.core (record { log = b.list; staged = none_staged; applied = applied_still }) x.senders (x.holds outs);
       kept = b.kept;
       holds = b.holds;
       packets = x.packets;
-      tail = λ t. tail t ∙ sym (undeclared new.log);
-      rests = inl (undeclared new.log);
+      tail = λ t. tail t ∙ sym (a.laws.rests w new outs);
+      rests = inl (a.laws.rests w new outs);
     }
 
     -- ---- the tail declares its log

@@ -22,7 +22,7 @@ use Rattle.hm_base.proofs.ListLaws.{All-prefix}
 use Rattle.hm_core_laws.specs.Sourced.{IsSourced}
 use Rattle.hm_core_laws.proofs.Laws.{DueLaws}
 use Rattle.hm_core_laws.proofs.Sources.{all_sourced_later}
-use Rattle.hm_core_laws.proofs.StepParts.{quiet_sound, answers_hold, answers_sent}
+use Rattle.hm_core_laws.proofs.StepParts.{quiet_sound, answers_hold, answers_sent, nothing_declared}
 use Rattle.hm_core_laws.proofs.Declaring.{declaring_sound}
 use Rattle.hm_core_laws.proofs.EpochSteps.{replica_is, epochs_opens, epochs_quiet, epochs_stepped, epochs_removed}
 use Rattle.hm_chain_laws.proofs.Laws.{StepLaws, EpochLaws}
@@ -45,6 +45,7 @@ step_laws = record {
   ahead = ahead_due;
   write_tidy = λ accepted log write h w e. (let t = admission_takes accepted log write.stamp write.client write.request e in tidy_write_push log write h w t.1 t.2);
   quiet = λ w number r outs core holds senders sent. quiet_sound due_laws.staying w core number r outs holds senders sent;
+  rests = λ w r outs. nothing_declared w.declared r.log;
   declaring = λ w number s core log staged longer applies senders stays. declaring_sound (λ xs ys p h. tidy_prefix p h) agree_declare w core number s log staged longer applies senders stays;
   answers_sent = answers_sent;
   answers_true = λ h k net r from to agree p. answers_hold look_due h k net r from to agree p;

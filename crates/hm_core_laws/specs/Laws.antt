@@ -33,6 +33,9 @@ QuietStepIsSound = (w : World) (number : ℕ) (r : Replica) (outs : List Message
     → All (Holds w.history w.declared (w.net ++ outs)) outs
     → StepSound w number (sends r outs)
 
+abbrev pub QuietStepDeclaresNothing : Type 0
+QuietStepDeclaresNothing = (w : World) (r : Replica) (outs : List Message) → declared_by w (sends r outs) ≡ w.declared
+
 abbrev pub DeclaringStepIsSound : Type 0
 DeclaringStepIsSound = (w : World) (number : ℕ) (s : Stepped)
     → Core w

@@ -32,9 +32,6 @@ was_invoked_later e f w = want_later (op_of e) (wanted e.object e.act) f w
 
 -- ---- writes that were committed
 
-pub writes_later : {h h' : List Mark} (object i : ℕ) → IsPrefix h h' → WritesAt h object i → WritesAt h' object i
-writes_later object i f x = record { writer = x.writer; stamp = x.stamp; value = x.value; commit = prefix_at i (Commit x.writer x.stamp) f x.commit; want = want_later x.writer (Write object x.value) f x.want }
-
 pub writes_before : {h h' : List Mark} (object i : ℕ) → IsPrefix h h' → IsWellFormed h → i < length h → WritesAt h' object i → WritesAt h object i
 writes_before {h} {h'} object i f formed l x =
     let c : At h i (Commit x.writer x.stamp) = prefix_at_back i (Commit x.writer x.stamp) f l x.commit in
