@@ -1,0 +1,5 @@
+mod Rows
+mod ChainRuns
+mod PrimaryRuns
+mod ViewstampedRuns
+mod ViewChangeRuns
