@@ -35,11 +35,6 @@ pub record IsCompletion (declared : List Entry) (done : Done) : Type 0 where
   pub stamp : entry.stamp ≡ done.stamp
   pub operation : op_of entry ≡ op done.client done.request
 
--- an invoked operation may be answered so now
-pub record IsAnswer (history : List Mark) (asked : OpId) (reply : Stamp × Answer) : Type 0 where
-  pub invoked : invoked_at history asked < length history
-  pub due : IsDueNow history asked reply
-
 pub record WasAskedToWrite (history : List Mark) (client request : ℕ) : Type 0 where
   pub object : ℕ
   pub value : List ℕ
@@ -52,7 +47,7 @@ BodyHolds history declared net src dst (body.Put put) = IsSourced history net (e
 BodyHolds history declared net src dst (body.FastRead read) = IsFresh history declared (op read.client read.request) read.object read.stamp
 BodyHolds history declared net src dst (body.NormalRead read) = WasAsked history read.client read.request (want.Read read.object)
 BodyHolds history declared net src dst (body.Done done) = IsCompletion declared done
-BodyHolds history declared net src dst (body.Reply reply) = IsAnswer history (op (number dst) reply.request) (reply.version, reply.answer)
+BodyHolds history declared net src dst (body.Reply reply) = IsDueNow history (op (number dst) reply.request) (reply.version, reply.answer)
 BodyHolds history declared net src dst (body.Ask ask) = WasAskedToWrite history ask.client ask.request
 BodyHolds history declared net src dst (body.Feed feed) = All (IsSourced history net) feed.entries
 BodyHolds history declared net src dst (body.Page page) = All (IsSourced history net) page.entries
