@@ -3,3 +3,7 @@ mod ChainRuns
 mod PrimaryRuns
 mod ViewstampedRuns
 mod ViewChangeRuns
+mod Packets
+mod PrimarySteps
+mod ViewstampedSteps
+mod ServiceSteps
