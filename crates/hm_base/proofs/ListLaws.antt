@@ -1,7 +1,7 @@
 -- Laws of prefixes, slices and membership, and of what stands at a place: of a list with one more item or one replaced, of filters, maps
 -- and first places.
-use Rattle.std.proofs.Common.{◌≡◌, ℕ, zero, suc, ◌+◌, ◌-◌, ◌<◌, ◌≤◌, ◌⊎◌, Bool, true, max, List, [], ◌∷◌, ◌++◌, length, map, take, drop, get_or, Some, None, refl, sym, ap, subst, ◌∙◌, append_assoc, arith, inl, inr}
-use Rattle.std.specs.Prelude.{All, filter, slice_get, slice_set}
+use Rattle.std.proofs.Common.{◌≡◌, ℕ, zero, suc, ◌+◌, ◌-◌, ◌<◌, ◌≤◌, ◌⊎◌, Bool, true, max, List, [], ◌∷◌, ◌++◌, length, map, take, drop, get_or, Option, Some, None, refl, sym, ap, subst, ◌∙◌, append_assoc, arith, inl, inr}
+use Rattle.std.specs.Prelude.{All, filter, fold, slice_get, slice_set}
 use Rattle.std.specs.List.{position_or_len}
 use Rattle.std.proofs.lemmas.Bool.{both_ways, cases_lt, cond_both}
 use Rattle.std.proofs.lemmas.List.{append-nil, take_at, drop_at, take_all, take-append-drop, take-append-le, length-append, length-take-le, length-drop, drop-append-le, drop_all}
@@ -329,3 +329,15 @@ spaced_append (w ∷ ws) b = simp (append_assoc, spaced_append ws b)
 -- a text that begins with a longer one
 pub begins_sooner : (front more middle whole : List ℕ) → middle ≡ front ++ more → IsPrefix middle whole → IsPrefix front whole
 begins_sooner front more middle whole is h = record { rest = more ++ h.rest; parts = sym (append_assoc front more h.rest) ∙ (ap (λ (l : List ℕ). l ++ h.rest) (sym is) ∙ h.parts) }
+
+-- ---- the last item
+
+last_from : {A : Type 0} (before : Option A) (xs : List A) (x : A) → fold (λ (before : Option A) (y : A). Some y) before xs ≡ Some x → (before ≡ Some x) ⊎ ((i : ℕ) × (slice_get xs i ≡ Some x))
+last_from before [] x h = inl h
+last_from before (y ∷ xs) x h = elim (last_from (Some y) xs x h) [
+  | inl here ↦ inr (0, here)
+  | inr later ↦ inr (suc later.0, later.1)
+]
+
+pub last_stands : {A : Type 0} (xs : List A) (x : A) → fold (λ (before : Option A) (y : A). Some y) None xs ≡ Some x → (i : ℕ) × (slice_get xs i ≡ Some x)
+last_stands xs x h = elim (last_from None xs x h) [ inl none ↦ absurd (none-some x none) | inr there ↦ there ]

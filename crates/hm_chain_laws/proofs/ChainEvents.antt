@@ -21,7 +21,7 @@ use Rattle.hm_core_laws.specs.Packets.{Holds}
 use Rattle.hm_core_laws.specs.Core.{Core}
 use Rattle.hm_core_laws.specs.Changes.{Origin, IsStep, Change}
 use Rattle.hm_core_laws.specs.Owed.{declared_by, StepsSound}
-use Rattle.hm_core_laws.proofs.EpochSteps.{epochs_stepped}
+use Rattle.hm_chain_laws.proofs.Laws.{StepLaws, EpochLaws}
 use Rattle.hm_chain_laws.specs.Chained.{MemberHolds, Fits, ChainHolds}
 use Rattle.hm_core_laws.proofs.Members.{last_greatest}
 use Rattle.hm_chain_laws.proofs.ChainParts.{Acts, MemberStep}
@@ -30,7 +30,7 @@ use Rattle.hm_chain_laws.proofs.ChainRows.{arrives}
 use Rattle.hm_chain_laws.proofs.ChainLater.{LogsGrow, all_fit_later, member_later}
 use Rattle.hm_chain_laws.proofs.ChainGroups.{after_quiet, after_removal}
 
-module _ (w : World) (core : Core w) (chain : ChainHolds w) where
+module _ (laws : StepLaws) (w : World) (core : Core w) (chain : ChainHolds w) where
   -- a live replica isn't behind the last member of any epoch
   not_behind : (i : ℕ) (x : Replica) → At w.replicas i x → is_stopped w i ≡ false → (r : Replica) → At chain.epochs r.view r.members → i ≤ last_member r
   not_behind i x at live r epoch = last_greatest 0 r.members i (chain.groups.rise r.view r.members epoch) (chain.groups.live i x r.view r.members at live epoch)
@@ -38,7 +38,7 @@ module _ (w : World) (core : Core w) (chain : ChainHolds w) where
   -- ---- the steps of this world
 
   abbrev acting : (n : ℕ) (s : Stepped) (x : IsStep w n s) → Acts w n x.replica
-  acting n s x = record { core = core; chain = chain; there = x.there; live = x.live }
+  acting n s x = record { laws = laws; core = core; chain = chain; there = x.there; live = x.live }
 
   arrived : (n : ℕ) (r : Replica) (a : Acts w n r) (m : Message) → IsIn m w.net → Fits a.chain.epochs w.replicas m → (k : GroupKind) → k ≡ Chain → (replica_step k r m).did ≡ did.Done → MemberStep w n r a (replica_step k r m)
   arrived n r a m i fits k e = subst (λ (k : GroupKind). (replica_step k r m).did ≡ did.Done → MemberStep w n r a (replica_step k r m)) (sym e)
@@ -116,11 +116,11 @@ module _ (w : World) (core : Core w) (chain : ChainHolds w) where
       ]
     ]
 
-    pub after_step : (cursor : ℕ) → ChainHolds (record (stepped w n s) { cursor = cursor })
-    after_step cursor = record {
+    pub after_step : EpochLaws → (cursor : ℕ) → ChainHolds (record (stepped w n s) { cursor = cursor })
+    after_step epochs cursor = record {
       kind = chain.kind;
       epochs = chain.epochs;
-      groups = epochs_stepped w chain.epochs chain.groups n s x.replica x.there cursor;
+      groups = epochs.step w chain.epochs n x.replica s cursor chain.groups x.there;
       members = member_after;
       packets = All-append (Fits chain.epochs replicas) w.net s.outs (all_fit_later (prefix_same chain.epochs) grown w.net chain.packets) given.packets;
       prefix = prefix_after;
@@ -129,7 +129,7 @@ module _ (w : World) (core : Core w) (chain : ChainHolds w) where
 
   -- ---- after any event
 
-  pub chain_after : (new : World) → Change w new → ChainHolds new
-  chain_after new (Change.Quiet q) = after_quiet w chain new q
-  chain_after new (Change.Step n s x e) = subst ChainHolds (sym e) (after_step n s x (member_step n s x) new.cursor)
-  chain_after new (Change.Removal n x) = subst ChainHolds (sym x.after) (after_removal w chain n x.stopped)
+  pub chain_after : EpochLaws → (new : World) → Change w new → ChainHolds new
+  chain_after epochs new (Change.Quiet q) = after_quiet epochs w chain new q
+  chain_after epochs new (Change.Step n s x e) = subst ChainHolds (sym e) (after_step n s x (member_step n s x) epochs new.cursor)
+  chain_after epochs new (Change.Removal n x) = subst ChainHolds (sym x.after) (after_removal epochs w chain n x.stopped)

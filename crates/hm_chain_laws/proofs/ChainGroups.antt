@@ -17,18 +17,19 @@ use Rattle.hm_rules.specs.World.{World, is_stopped}
 use Rattle.hm_rules.specs.Happens.{serviced}
 use Rattle.hm_core_laws.specs.Changes.{is_quiet, IsQuiet}
 use Rattle.hm_chain_laws.specs.Chained.{Fits, ChainHolds}
-use Rattle.hm_core_laws.proofs.EpochSteps.{fewer_members, epochs_quiet, epochs_removed, epoch_now}
+use Rattle.hm_core_laws.specs.Epochs.{EpochsHold}
+use Rattle.hm_chain_laws.proofs.Laws.{EpochLaws}
 use Rattle.hm_core_laws.proofs.Members.{absent_before}
 use Rattle.hm_chain_laws.proofs.ChainLater.{LogsGrow, logs_same, all_fit_later, quiet_fits, member_later}
 
-module _ (w : World) (chain : ChainHolds w) where
+module _ (laws : EpochLaws) (w : World) (chain : ChainHolds w) where
   -- ---- after an event in which no replica takes a step
 
   pub after_quiet : (new : World) → IsQuiet w new → ChainHolds new
   after_quiet new q = record {
     kind = ap (λ (s : Setup). s.kind) q.setup ∙ chain.kind;
     epochs = chain.epochs;
-    groups = epochs_quiet w chain.epochs chain.groups new q;
+    groups = laws.quiet w new chain.epochs chain.groups q;
     members = λ i r at. member_later (prefix_same chain.epochs) grow i r (chain.members i r (before i r at));
     packets = subst (All (Fits chain.epochs new.replicas)) (sym q.net) (All-append (Fits chain.epochs new.replicas) w.net q.sent (all_fit_later (prefix_same chain.epochs) grow w.net chain.packets)
         (All-weaker (λ (m : Message). IsTrue (is_quiet m.body)) (Fits chain.epochs new.replicas) (λ m t. quiet_fits chain.epochs new.replicas (number m.src) m.body t) q.sent q.kinds));
@@ -49,7 +50,7 @@ module _ (w : World) (chain : ChainHolds w) where
 
   module _ (n : ℕ) (stopped : is_stopped w n ≡ true) where
     abbrev members : List ℕ
-    members = fewer_members w chain.epochs chain.groups n stopped
+    members = (removes w.service n).service.members
 
     abbrev epochs : List (List ℕ)
     epochs = chain.epochs ++ members ∷ []
@@ -57,15 +58,18 @@ module _ (w : World) (chain : ChainHolds w) where
     abbrev told : Message
     told = from_service (node.Switch w.service.newest) (body.Route (service_route (removes w.service n).service))
 
+    groups : EpochsHold (serviced w (removes w.service n)).world epochs
+    groups = laws.removal w chain.epochs n chain.groups stopped
+
     pub after_removal : ChainHolds (serviced w (removes w.service n)).world
     after_removal = record {
       kind = chain.kind;
       epochs = epochs;
-      groups = epochs_removed w chain.epochs chain.groups n stopped;
+      groups = groups;
       members = λ i r at. member_later (prefix_append chain.epochs (members ∷ [])) (logs_same w.replicas) i r (chain.members i r at);
       packets = All-append (Fits epochs w.replicas) w.net (removes w.service n).outs (all_fit_later (prefix_append chain.epochs (members ∷ [])) (logs_same w.replicas) w.net chain.packets)
           (All-append (Fits epochs w.replicas) (map (config_to (removes w.service n).service) members) (told ∷ [])
-          (All-map (Fits epochs w.replicas) (config_to (removes w.service n).service) members (λ k d l. epoch_now w chain.epochs chain.groups n stopped))
+          (All-map (Fits epochs w.replicas) (config_to (removes w.service n).service) members (λ k d l. groups.service))
           (All-cons (Fits epochs w.replicas) told [] tt (All-nil (Fits epochs w.replicas))));
       prefix = chain.prefix;
       tail = chain.tail;

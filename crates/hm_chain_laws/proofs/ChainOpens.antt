@@ -9,14 +9,18 @@ use Rattle.hm_base.proofs.ListLaws.{prefix_nil}
 use Rattle.hm_rules.specs.Replica.{Replica, opened}
 use Rattle.hm_rules.specs.Events.{Setup}
 use Rattle.hm_rules.specs.World.{opened_replicas, opens}
-use Rattle.hm_core_laws.proofs.EpochSteps.{members, replica_is, epochs_opens}
+use Rattle.hm_rules.specs.Service.{replicas_below}
+use Rattle.hm_core_laws.specs.Laws.{ReplicasOpen, EpochsHoldAtFirst}
 use Rattle.hm_chain_laws.specs.Chained.{MemberHolds, Fits, ChainHolds}
 
-module _ (setup : Setup) where
-  abbrev opening : ℕ → Replica
-  opening me = opened me (members setup) setup.cap
+module _ (open_replicas : ReplicasOpen) (open_epochs : EpochsHoldAtFirst) (setup : Setup) where
+  abbrev members : List ℕ
+  members = replicas_below setup.size
 
-  member_opens : (n : ℕ) → MemberHolds (members setup ∷ []) (opened_replicas setup) n (opening n)
+  abbrev opening : ℕ → Replica
+  opening me = opened me members setup.cap
+
+  member_opens : (n : ℕ) → MemberHolds (members ∷ []) (opened_replicas setup) n (opening n)
   member_opens n = record {
     me = refl;
     unstaged = refl;
@@ -29,10 +33,10 @@ module _ (setup : Setup) where
   pub chain_opens : setup.kind ≡ Chain → ChainHolds (opens setup)
   chain_opens kind = record {
     kind = kind;
-    epochs = members setup ∷ [];
-    groups = epochs_opens setup;
-    members = λ n r at. subst (MemberHolds (members setup ∷ []) (opened_replicas setup) n) (replica_is setup n r at).1 (member_opens n);
-    packets = All-nil (Fits (members setup ∷ []) (opened_replicas setup));
+    epochs = members ∷ [];
+    groups = open_epochs setup;
+    members = λ n r at. subst (MemberHolds (members ∷ []) (opened_replicas setup) n) (open_replicas setup n r at).1 (member_opens n);
+    packets = All-nil (Fits (members ∷ []) (opened_replicas setup));
     prefix = λ n r at live. prefix_nil r.log;
-    tail = λ n r at live t. ap (λ (x : Replica). x.log) (sym (replica_is setup n r at).1);
+    tail = λ n r at live t. ap (λ (x : Replica). x.log) (sym (open_replicas setup n r at).1);
   }

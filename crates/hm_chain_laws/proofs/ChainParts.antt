@@ -1,8 +1,8 @@
 -- Parts of the steps of a chain's member: a replica in the middle of a step, the packets that it sends, and the two ways in which a
 -- step ends, with or without declaring the log.
-use Rattle.std.proofs.Common.{◌≡◌, ℕ, ◌≤◌, ◌⊎◌, true, false, List, [], ◌∷◌, ◌++◌, length, take, drop, Option, Some, None, refl, sym, ap, subst, ◌∙◌, arith, inl, inr}
+use Rattle.std.proofs.Common.{◌≡◌, ℕ, ◌<◌, ◌≤◌, ◌⊎◌, true, false, List, [], ◌∷◌, ◌++◌, length, take, drop, Option, Some, None, refl, sym, ap, subst, ◌∙◌, arith, inl, inr}
 use Rattle.std.specs.Prelude.{max, ◌-◌, nat_lt, IsTrue, slice_set, All}
-use Rattle.std.proofs.lemmas.Bool.{cond_both, both_ways, cases_lt, ltb-false}
+use Rattle.std.proofs.lemmas.Bool.{cond_both, both_ways, cases_lt, ltb-true, ltb-false}
 use Rattle.std.proofs.lemmas.List.{take_all, drop_all}
 use Rattle.std.proofs.lemmas.List.Elements.{All-nil, All-cons, All-append, All-take, All-drop, All-map}
 use Rattle.hm_base.specs.declared.entry.Entry.{Entry}
@@ -17,21 +17,19 @@ use Rattle.hm_order.specs.declared.mark.Mark.{Mark}
 use Rattle.hm_order.specs.Marks.{At}
 use Rattle.hm_due_law.specs.Tidy.{IsTidy}
 use Rattle.hm_due_law.specs.Agreed.{Agree}
-use Rattle.hm_due_law.proofs.Tidies.{tidy_nil}
 use Rattle.hm_rules.specs.Senders.{replica_sends}
 use Rattle.hm_rules.specs.Replica.{Replica, len, acked_by}
 use Rattle.hm_rules.specs.ReplicaSteps.{Stepped, sends, sends_first, page_to, max_answered, answer_act, answer_entry, answers, declares}
 use Rattle.hm_rules.specs.Chain.{is_tail, successor, page_if_any, passes_on, chain_grew}
-use Rattle.hm_rules.specs.Declared.{commits_since}
+use Rattle.hm_rules.specs.Declared.{declared_after}
 use Rattle.hm_rules.specs.World.{World, is_stopped}
 use Rattle.hm_core_laws.specs.Sourced.{IsSourced}
 use Rattle.hm_core_laws.specs.Packets.{Holds}
 use Rattle.hm_core_laws.specs.Core.{ListHolds, Core}
 use Rattle.hm_core_laws.specs.Owed.{declared_by, StepSound}
-use Rattle.hm_core_laws.proofs.Sources.{all_sourced_later}
-use Rattle.hm_core_laws.proofs.CoreGrows.{agrees}
-use Rattle.hm_core_laws.proofs.StepParts.{nothing_declared, quiet_sound, answers_hold, answers_sent}
+use Rattle.hm_core_laws.specs.Later.{StaysTrue}
 use Rattle.hm_chain_laws.specs.Kept.{KeepsLog}
+use Rattle.hm_chain_laws.proofs.Laws.{StepLaws}
 use Rattle.hm_core_laws.specs.Epochs.{HasMember}
 use Rattle.hm_chain_laws.specs.Chained.{MemberHolds, IsPageOf, Fits, ChainHolds}
 
@@ -51,6 +49,7 @@ page_later first entries xs ys x p = elim x [ inl none ↦ inl none | inr slice 
 
 -- a live member of a sound chain
 pub record Acts (w : World) (n : ℕ) (r : Replica) : Type 0 where
+  pub laws : StepLaws
   pub core : Core w
   pub chain : ChainHolds w
   pub there : At w.replicas n r
@@ -133,7 +132,7 @@ module _ (w : World) (n : ℕ) (r : Replica) (a : Acts w n r) where
         by_next : (o : Option ℕ) → Sends w n r a new (page_if_any new o)
         by_next None = sends_none new
         by_next (Some other) = sends_one new (page_to new 0 0 other) refl
-            (λ more. all_sourced_later (page new.log (acked_by new other)) (prefix_same w.history) (prefix_append w.net more)
+            (λ more. a.laws.sourced w.history w.history w.net (w.net ++ more) (page new.log (acked_by new other)) (prefix_same w.history) (prefix_append w.net more)
             (All-take (IsSourced w.history w.net) max_page_len (drop (acked_by new other) new.log) (All-drop (IsSourced w.history w.net) (acked_by new other) new.log b.list.sourced)))
             (record { members = new.members; epoch = b.holds.epoch; pages = pages_fit (acked_by new other) })
 
@@ -146,16 +145,20 @@ module _ (w : World) (n : ℕ) (r : Replica) (a : Acts w n r) where
         subst (λ (l : List Entry). IsPrefix l w.declared) (sym same) (a.core.replicas n r a.there).applied
 
     none_staged : ListHolds w.history w.net (held [] new.staged)
-    none_staged = subst (λ (o : Option (List Entry)). ListHolds w.history w.net (held [] o)) (sym b.holds.unstaged) (record { sourced = All-nil (IsSourced w.history w.net); tidy = tidy_nil })
+    none_staged = subst (λ (o : Option (List Entry)). ListHolds w.history w.net (held [] o)) (sym b.holds.unstaged) (record { sourced = All-nil (IsSourced w.history w.net); tidy = record { stamps = tt; requests = tt } })
+
+    undeclared : (log : List Entry) → declared_after w.declared log 0 ≡ w.declared
+    undeclared log = cond_both (nat_lt (length w.declared) 0) (take 0 log) w.declared (λ (l : List Entry). l ≡ w.declared)
+        (λ t. absurd (let below : length w.declared < 0 = ltb-true (length w.declared) 0 t in omega arith)) (λ t. refl)
 
     pub silently : (outs : List Message) → (is_tail new ≡ true → new.log ≡ w.declared) → Sends w n r a new outs → MemberStep w n r a (sends new outs)
     silently outs tail x = record {
-      sound = quiet_sound w a.core n new outs (record { log = b.list; staged = none_staged; applied = applied_still }) x.senders (x.holds outs);
+      sound = a.laws.quiet w n new outs a.core (record { log = b.list; staged = none_staged; applied = applied_still }) x.senders (x.holds outs);
       kept = b.kept;
       holds = b.holds;
       packets = x.packets;
-      tail = λ t. tail t ∙ sym (nothing_declared w.declared new.log);
-      rests = inl (nothing_declared w.declared new.log);
+      tail = λ t. tail t ∙ sym (undeclared new.log);
+      rests = inl (undeclared new.log);
     }
 
     -- ---- the tail declares its log
@@ -178,9 +181,6 @@ module _ (w : World) (n : ℕ) (r : Replica) (a : Acts w n r) where
       applied_all : IsPrefix (take (len new) new.log) (declared_by w step)
       applied_all = subst (λ (l : List Entry). IsPrefix (take (len new) new.log) l) (sym all_declared) (prefix_take (len new) new.log)
 
-      agree_then : Agree (w.history ++ commits_since w.declared (declared_by w step)) (declared_by w step)
-      agree_then = agrees w step a.core.agree declared_more (subst IsTidy (sym all_declared) b.list.tidy) (subst (All (IsSourced w.history w.net)) (sym all_declared) b.list.sourced)
-
       answers_fit : All (Fits a.chain.epochs (slice_set w.replicas n (record new { known = len new }))) (answers (record new { known = len new }) from (len new))
       answers_fit = All-map (Fits a.chain.epochs (slice_set w.replicas n (record new { known = len new }))) (answer_entry (record new { known = len new })) (drop (max from (len new - max_answered)) (take (len new) new.log))
           (each_from_at (λ (e : Entry). Fits a.chain.epochs (slice_set w.replicas n (record new { known = len new })) (answer_entry (record new { known = len new }) e)) (drop (max from (len new - max_answered)) (take (len new) new.log)) (λ i e at. entry_fits e e.act))
@@ -192,16 +192,11 @@ module _ (w : World) (n : ℕ) (r : Replica) (a : Acts w n r) where
       pub declaring : MemberStep w n r a (sends_first front (declares new from (len new)))
       unfolding step
       declaring = record {
-        sound = record {
-          log = b.list;
-          staged = none_staged;
-          declared = declared_more;
-          applied = applied_all;
-          senders = All-append (λ (m : Message). IsTrue (replica_sends m.body)) front (declares new from (len new)).outs free.senders (answers_sent new from (len new));
-          sent = All-append (Holds (w.history ++ commits_since w.declared (declared_by w step)) (declared_by w step) (w.net ++ step.outs)) front (declares new from (len new)).outs
-              (free.holds (w.history ++ commits_since w.declared (declared_by w step)) (declared_by w step) (w.net ++ step.outs))
-              (answers_hold (w.history ++ commits_since w.declared (declared_by w step)) (declared_by w step) (w.net ++ step.outs) new from (len new) agree_then applied_all);
-        };
+        sound = a.laws.declaring w n step a.core b.list none_staged declared_more applied_all
+            (All-append (λ (m : Message). IsTrue (replica_sends m.body)) front (declares new from (len new)).outs free.senders (a.laws.answers_sent new from (len new)))
+            (All-append (StaysTrue w (declared_by w step)) front (declares new from (len new)).outs
+            (λ k d l. λ history declared net later p. free.holds history declared net k d l)
+            (λ k d l. λ history declared net later p. a.laws.answers_true history declared net new from (len new) later.agree (prefix_then applied_all p) k d l));
         kept = record { me = b.kept.me; cap = b.kept.cap; unstaged = b.kept.unstaged; log = b.kept.log };
         holds = record { me = b.holds.me; unstaged = b.holds.unstaged; known = omega arith; writes = b.holds.writes; epoch = b.holds.epoch; nested = b.holds.nested };
         packets = All-append (Fits a.chain.epochs (slice_set w.replicas n (record new { known = len new }))) front (declares new from (len new)).outs (free.packets a.chain.epochs (slice_set w.replicas n (record new { known = len new }))) answers_fit;

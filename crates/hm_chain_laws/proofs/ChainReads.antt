@@ -14,7 +14,7 @@ use Rattle.hm_base.specs.declared.why.Why.{Why}
 use Rattle.hm_base.specs.declared.why.Why.TheVariants as why
 use Rattle.hm_base.specs.Logs.{is_put, is_write, latest, read_ahead}
 use Rattle.hm_base.specs.Verdicts.{judge}
-use Rattle.hm_base.proofs.ListLaws.{prefix_same, each_at}
+use Rattle.hm_base.proofs.ListLaws.{prefix_same, each_at, last_stands}
 use Rattle.hm_packet.specs.declared.acted.Did.TheVariants as did
 use Rattle.hm_packet.specs.declared.body.Body.TheVariants as body
 use Rattle.hm_packet.specs.declared.body.FastRead.{FastRead}
@@ -24,20 +24,18 @@ use Rattle.hm_packet.specs.declared.body.Refuse.{Refuse}
 use Rattle.hm_packet.specs.Messages.{Message}
 use Rattle.hm_order.specs.declared.mark.Want.TheVariants as want
 use Rattle.hm_order.specs.Marks.{At, want_of, op_of}
-use Rattle.hm_order.proofs.Growth.{want_invoked}
 use Rattle.hm_due_law.specs.Declared.{wanted}
 use Rattle.hm_due_law.specs.Answers.{IsDueNow, IsFresh}
-use Rattle.hm_due_law.proofs.ReadAnswers.{whole_due, ahead_due}
 use Rattle.hm_rules.specs.Replica.{Replica, first_member, last_member}
 use Rattle.hm_rules.specs.ReplicaSteps.{Stepped, ignored, sends, to, done_of, read_reply, last_of, done_if_any, answers_again, as_normal, stamped_read, last_number, on_refuse}
 use Rattle.hm_rules.specs.Chain.{is_tail, successor, passes_on, chain_again, chain_normal_read, chain_asked, chain_ask, is_behind, chain_tick}
 use Rattle.hm_rules.specs.World.{World}
 use Rattle.hm_core_laws.specs.Sourced.{IsSourced}
 use Rattle.hm_core_laws.specs.Packets.{op, WasAsked, WasAskedToWrite}
-use Rattle.hm_core_laws.proofs.ListSteps.{last_stands}
 use Rattle.hm_chain_laws.specs.Chained.{MemberHolds}
 use Rattle.hm_chain_laws.proofs.LogGrowth.{kept_same}
 use Rattle.hm_chain_laws.proofs.ChainParts.{Acts, MemberStep, Becomes, Sends, sends_none, sends_one, passing, silently}
+use Rattle.hm_order.proofs.Positions.{want_invoked}
 
 module _ (w : World) (n : ℕ) (r : Replica) (a : Acts w n r) where
   abbrev pub Fine : Stepped → Type 0
@@ -121,7 +119,7 @@ module _ (w : World) (n : ℕ) (r : Replica) (a : Acts w n r) where
       let reply : Message = read_reply r read.client read.request (latest r.log read.object) in
       says (reply ∷ []) (sends_one w n r a r reply refl (λ more. record {
         invoked = want_invoked w.history (op read.client read.request) (want.Read read.object) was;
-        due = subst (λ (l : List Entry). IsDueNow w.history (op read.client read.request) (latest l read.object)) (sym (whole t)) (whole_due w.history w.declared (op read.client read.request) read.object a.core.agree.records was);
+        due = subst (λ (l : List Entry). IsDueNow w.history (op read.client read.request) (latest l read.object)) (sym (whole t)) (a.laws.whole w.history w.declared (op read.client read.request) read.object a.core.agree.records was);
       }) tt)
 
   pub normal_read_row : (read : NormalRead) → WasAsked w.history read.client read.request (want.Read read.object) → Fine (chain_normal_read r read)
@@ -133,7 +131,7 @@ module _ (w : World) (n : ℕ) (r : Replica) (a : Acts w n r) where
       let reply : Message = read_reply r read.client read.request found in
       says (reply ∷ []) (sends_one w n r a r reply refl (λ more. record {
         invoked = want_invoked w.history (op read.client read.request) (want.Read read.object) fresh.read;
-        due = ahead_due w.history w.declared r.log (op read.client read.request) read.object r.accepted read.stamp found a.core.agree.records fresh.read fresh.point (a.chain.prefix n r a.there a.live) (a.core.replicas n r a.there).log.tidy e;
+        due = a.laws.ahead w.history w.declared r.log (op read.client read.request) read.object r.accepted read.stamp found a.core.agree.records fresh.read fresh.point (a.chain.prefix n r a.there a.live) (a.core.replicas n r a.there).log.tidy e;
       }) tt)
   stamped read None e fresh =
       let passed : Message = to r (node.Replica (last_member r)) (body.NormalRead (as_normal read)) in

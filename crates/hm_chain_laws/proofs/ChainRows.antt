@@ -29,8 +29,7 @@ use Rattle.hm_packet.specs.declared.body.FeedAck.{FeedAck}
 use Rattle.hm_packet.specs.declared.body.Config.{Config}
 use Rattle.hm_packet.specs.Messages.{Message}
 use Rattle.hm_order.specs.Marks.{At}
-use Rattle.hm_due_law.proofs.Requests.{admission_takes, tidy_write_push}
-use Rattle.hm_due_law.proofs.Tidies.{tidy_prefix}
+use Rattle.hm_due_law.specs.Tidy.{IsTidy}
 use Rattle.hm_rules.specs.Senders.{same_node, number, replica_sends}
 use Rattle.hm_rules.specs.Replica.{Replica, len, acked_by, first_member, with_acked, none_acked}
 use Rattle.hm_rules.specs.ReplicaSteps.{Stepped, ignored, log_full, sends, sends_first, ack_to, declares, appends, entry_of, admits, takes_put, on_took, is_foreign}
@@ -88,14 +87,14 @@ module _ (w : World) (n : ℕ) (r : Replica) (a : Acts w n r) where
         let place : r.me ≡ n = own.me in
         absurd (omega arith)
 
-    appended : end_stamp r.log ≺ put.stamp → judge r.log put.client put.request ≡ verdict.New → FineStep (appends chain_grew r (entry_of put))
-    appended above new =
+    appended : IsTidy (r.log ++ entry_of put ∷ []) → FineStep (appends chain_grew r (entry_of put))
+    appended tidy =
         let after : Replica = record r { log = r.log ++ entry_of put ∷ [] } in
         let becomes : Becomes w n r a after = record {
           kept = record { me = refl; cap = refl; unstaged = own.unstaged; log = prefix_append r.log (entry_of put ∷ []) };
           list = record {
             sourced = All-push (IsSourced w.history w.net) r.log (entry_of put) held.log.sourced source;
-            tidy = tidy_write_push r.log (entry_of put) held.log.tidy refl above new;
+            tidy = tidy;
           };
           known = refl;
           holds = record {
@@ -112,9 +111,7 @@ module _ (w : World) (n : ℕ) (r : Replica) (a : Acts w n r) where
     admitting : (x : Admit) → admission r.accepted r.log put.stamp put.client put.request ≡ x → FineStep (admits chain_grew chain_again r put x)
     admitting (admit.Drop reason) e = ignores w n r a reason
     admitting (admit.Again index) e = again w n r a index (slice_get r.log index) refl
-    admitting admit.Take e =
-        let t : (r.accepted ≡ put.stamp.switch) × (end_stamp r.log ≺ put.stamp) × (judge r.log put.client put.request ≡ verdict.New) = admission_takes r.accepted r.log put.stamp put.client put.request e in
-        appended t.1 t.2
+    admitting admit.Take e = appended (a.laws.write_tidy r.accepted r.log (entry_of put) held.log.tidy refl e)
 
   put_row : (put : Put) → IsSourced w.history w.net (entry_of put) → FineStep (chain_put r put)
   put_row put source = cond_both (is_head r) (takes_put chain_grew chain_again r put) (ignored r why.Status) FineStep
@@ -150,10 +147,7 @@ module _ (w : World) (n : ℕ) (r : Replica) (a : Acts w n r) where
     becomes : Becomes w n r a after
     becomes = record {
       kept = record { me = refl; cap = refl; unstaged = refl; log = prefix_append r.log (drop (length r.log - feed.first) feed.entries) };
-      list = record {
-        sourced = All-prefix (IsSourced w.history w.net) along_sender (a.core.replicas from sender.0 sender.1).log.sourced;
-        tidy = tidy_prefix along_sender (a.core.replicas from sender.0 sender.1).log.tidy;
-      };
+      list = a.laws.front w.history w.net longer sender.0.log along_sender (a.core.replicas from sender.0 sender.1).log;
       known = refl;
       holds = record {
         me = own.me;

@@ -1,3 +1,4 @@
+mod Laws
 mod LogGrowth
 mod ChainParts
 mod ChainReads

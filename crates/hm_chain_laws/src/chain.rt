@@ -14,24 +14,51 @@ ghost use Rattle.hm_core_laws.specs.Changes.{Change};
 ghost use Rattle.hm_core_laws.specs.Owed.{StepsSound};
 ghost use Rattle.hm_chain_laws.specs.Chained.{ChainHolds, IsSound};
 
+use hm_core_laws::epochs::{epochs_go_on, epochs_hold_at_first, replicas_open};
 use hm_core_laws::events::{
     core_explains_history, core_holds_at_first, events_are_changes, events_keep_core,
 };
+use hm_core_laws::later::lists_go_on_holding;
+use hm_core_laws::steps::{
+    declared_answers_are_true, declaring_step_is_sound, quiet_step_is_sound,
+};
+use hm_due_law::answers::{answer_ahead_is_due, whole_list_answer_is_due};
+use hm_due_law::tidy::admitted_write_keeps_tidy;
 
 /// What holds of a chain holds of one of any length before its first event.
 pub fn chain_holds_at_first()
     ensures { (setup : Setup) → setup.kind ≡ Chain → ChainHolds (opens setup) }
-{}
+{
+    replicas_open();
+    epochs_hold_at_first();
+}
 
 /// Each step that a live member may take is as it is owed: what it sends is true, and what it declares goes on from the declared list.
 pub fn chain_steps_are_sound()
     ensures { (w : World) → Core w → ChainHolds w → StepsSound w }
-{}
+{
+    whole_list_answer_is_due();
+    answer_ahead_is_due();
+    admitted_write_keeps_tidy();
+    quiet_step_is_sound();
+    declaring_step_is_sound();
+    declared_answers_are_true();
+    lists_go_on_holding();
+}
 
 /// It goes on holding, whatever an event changes.
 pub fn chain_goes_on()
     ensures { (w new : World) → Core w → ChainHolds w → Change w new → ChainHolds new }
-{}
+{
+    whole_list_answer_is_due();
+    answer_ahead_is_due();
+    admitted_write_keeps_tidy();
+    quiet_step_is_sound();
+    declaring_step_is_sound();
+    declared_answers_are_true();
+    lists_go_on_holding();
+    epochs_go_on();
+}
 
 /// A chain of any length is sound before its first event, and stays sound in every event.
 pub fn chain_stays_sound()

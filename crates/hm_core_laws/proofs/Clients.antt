@@ -14,8 +14,7 @@ use Rattle.hm_order.specs.declared.mark.Mark.TheVariants.{Invoke, Commit, Reply}
 use Rattle.hm_order.specs.declared.mark.Want.{Want}
 use Rattle.hm_order.specs.Marks.{At, invoked_at, commit_of}
 use Rattle.hm_order.specs.Legal.{IsWellFormed}
-use Rattle.hm_order.proofs.Positions.{invoke_found, want_is}
-use Rattle.hm_due_law.proofs.Later.{want_later}
+use Rattle.hm_order.proofs.Positions.{invoke_found, want_is, want_later}
 use Rattle.hm_rules.specs.World.{Client, with_client}
 use Rattle.hm_core_laws.specs.Packets.{op, WasAsked}
 use Rattle.hm_core_laws.specs.Core.{ClientHolds}

@@ -33,7 +33,6 @@ use Rattle.hm_order.specs.Marks.{At, invoked_at, replied_at}
 use Rattle.hm_order.proofs.Positions.{reply_found}
 use Rattle.hm_due_law.specs.Answers.{IsDueNow}
 use Rattle.hm_due_law.specs.Agreed.{Agree}
-use Rattle.hm_due_law.proofs.Agreeing.{agree_invoke, agree_reply}
 use Rattle.hm_rules.specs.Senders.{same_node, number}
 use Rattle.hm_rules.specs.Numbers.{stands_in, with_number}
 use Rattle.hm_rules.specs.Same.{same_message}
@@ -52,6 +51,7 @@ use Rattle.hm_core_laws.specs.Core.{ClientHolds, Core}
 use Rattle.hm_core_laws.specs.Changes.{Origin, IsStep}
 use Rattle.hm_core_laws.specs.Owed.{StepSound, StepsSound}
 use Rattle.hm_core_laws.proofs.Sources.{IsUnnumbered, puts_append}
+use Rattle.hm_core_laws.proofs.Laws.{DueLaws}
 use Rattle.hm_core_laws.proofs.HoldsLater.{all_hold_later}
 use Rattle.hm_core_laws.proofs.Switching.{TurnHolds, switch_turn}
 use Rattle.hm_core_laws.proofs.Clients.{clients_with, uninvoked, was_asked, asking_holds, other_asks, answered_holds, other_answered}
@@ -105,7 +105,7 @@ passed_owed w owed n s x = same (owed n s (passed_step w (w.cursor + 1) n s x))
     same : StepSound w n s → StepSound (passed w) n s
     same y = record { log = y.log; staged = y.staged; declared = y.declared; applied = y.applied; senders = y.senders; sent = y.sent }
 
-module _ (w : World) (core : Core w) where
+module _ (laws : DueLaws) (w : World) (core : Core w) where
   -- ---- clients
 
   own : (c : ℕ) → ClientHolds w.history (client_of w c).client (client_of w c)
@@ -116,11 +116,11 @@ module _ (w : World) (core : Core w) where
       let k : Client = client_of w c in
       let asking : Client = record k { request = k.request + 1; outstanding = Some asked } in
       let h : List Mark = w.history ++ mark.Invoke (op k.client (k.request + 1)) asked ∷ [] in
-      let agree : Agree h w.declared = agree_invoke w.history w.declared (op k.client (k.request + 1)) asked core.agree (uninvoked w.history core.agree.formed k (own c) asked) in
+      let agree : Agree h w.declared = laws.invocation w.history w.declared (op k.client (k.request + 1)) asked core.agree (uninvoked w.history core.agree.formed k (own c) asked) in
       let done : Happened = taken w (invoked w asking asked s) in
       cond_both (not (is_some (switch_at w s))) (barred w bar.NoSwitch) (if is_some k.outstanding then barred w bar.Busy else done) (λ (x : Happened). Core x.world) (λ t. core)
       (λ t. cond_both (is_some k.outstanding) (barred w bar.Busy) done (λ (x : Happened). Core x.world) (λ f. core)
-      (λ f. core_goes_on w core h (request_to asking asked s ∷ []) (with_client asking w.clients) (prefix_append w.history (mark.Invoke (op k.client (k.request + 1)) asked ∷ [])) agree
+      (λ f. core_goes_on laws w core h (request_to asking asked s ∷ []) (with_client asking w.clients) (prefix_append w.history (mark.Invoke (op k.client (k.request + 1)) asked ∷ [])) agree
       (request_unnumbered asking asked s)
       (request_holds h w.declared (w.net ++ request_to asking asked s ∷ []) asking asked s (was_asked w.history core.agree.formed k (own c) asked agree.formed))
       (clients_with h w.clients asking (asking_holds w.history core.agree.formed k (own c) asked agree.formed)
@@ -130,18 +130,17 @@ module _ (w : World) (core : Core w) where
   core_resends c None s e = core
   core_resends c (Some asked) s e =
       let k : Client = client_of w c in
-      core_posts w core (request_to k asked s ∷ []) (request_unnumbered k asked s) (request_holds w.history w.declared (w.net ++ request_to k asked s ∷ []) k asked s ((core.clients c).waits asked e).invoked)
+      core_posts laws w core (request_to k asked s ∷ []) (request_unnumbered k asked s) (request_holds w.history w.declared (w.net ++ request_to k asked s ∷ []) k asked s ((core.clients c).waits asked e).invoked)
 
   core_answered : (c : ℕ) (reply : Reply) (asked : Want) → (client_of w c).outstanding ≡ Some asked → (client_of w c).request ≡ reply.request → IsAnswer w.history (op c reply.request) (reply.version, reply.answer) → Core (answered w (client_of w c) reply)
   core_answered c reply asked waiting same x =
       let k : Client = client_of w c in
       let here : op c reply.request ≡ op k.client k.request = ap (λ (n : ℕ). op n reply.request) (sym (core.clients c).client) ∙ ap (λ (n : ℕ). op k.client n) (sym same) in
-      let l : invoked_at w.history (op k.client k.request) < length w.history = subst (λ (o : OpId). invoked_at w.history o < length w.history) here x.invoked in
       let due : IsDueNow w.history (op k.client k.request) (reply.version, reply.answer) = subst (λ (o : OpId). IsDueNow w.history o (reply.version, reply.answer)) here x.due in
       let h : List Mark = w.history ++ mark.Reply (op k.client k.request) reply.version reply.answer ∷ [] in
-      let agree : Agree h w.declared = agree_reply w.history w.declared (op k.client k.request) (reply.version, reply.answer) core.agree l unanswered due in
+      let agree : Agree h w.declared = laws.reply w.history w.declared (op k.client k.request) (reply.version, reply.answer) core.agree unanswered due in
       let after : Core (record w { clients = with_client (record k { outstanding = None }) w.clients; history = h }) =
-      core_marks w core h (with_client (record k { outstanding = None }) w.clients) (prefix_append w.history (mark.Reply (op k.client k.request) reply.version reply.answer ∷ [])) agree
+      core_marks laws w core h (with_client (record k { outstanding = None }) w.clients) (prefix_append w.history (mark.Reply (op k.client k.request) reply.version reply.answer ∷ [])) agree
       (clients_with h w.clients (record k { outstanding = None }) (answered_holds w.history k (own c) reply.version reply.answer)
       (λ other ne. other_answered w.history k (own c) reply.version reply.answer other (client_of w other) ne (core.clients other))) in
       subst (λ (n : ℕ). Core (record w { clients = with_client (record k { outstanding = None }) w.clients; history = w.history ++ mark.Reply (op k.client n) reply.version reply.answer ∷ [] })) same after
@@ -170,24 +169,24 @@ module _ (w : World) (core : Core w) where
 
   core_turned : (n : ℕ) (s s' : AbstractSwitch) (t : Turn) → switch_at w n ≡ Some s → TurnHolds w.history w.declared w.net n s' t → Core (turned w (with_switch w n s') t).world
   core_turned n s s' (turn.Sent p) there x =
-      core_switched w core n s s' (w.net ++ p ∷ []) (prefix_append w.net (p ∷ [])) there x.switch
+      core_switched laws w core n s s' (w.net ++ p ∷ []) (prefix_append w.net (p ∷ [])) there x.switch
       (λ other ne. puts_append other w.net (p ∷ []) ∙ ap (λ (l : List Entry). puts other w.net ++ (l ++ [])) (x.others other ne) ∙ append-nil (puts other w.net))
-      (All-push (Holds w.history w.declared (w.net ++ p ∷ [])) w.net p (all_hold_later (prefix_same w.history) (prefix_same w.declared) (prefix_append w.net (p ∷ [])) core.agree.formed w.net core.packets) x.packet)
-  core_turned n s s' turn.Noted there x = core_switched w core n s s' w.net (prefix_same w.net) there x (λ other ne. refl) core.packets
-  core_turned n s s' (turn.Ignored reason) there x = core_switched w core n s s' w.net (prefix_same w.net) there x (λ other ne. refl) core.packets
-  core_turned n s s' turn.Full there x = core_switched w core n s s' w.net (prefix_same w.net) there x (λ other ne. refl) core.packets
-  core_turned n s s' turn.Spent there x = core_switched w core n s s' w.net (prefix_same w.net) there x (λ other ne. refl) core.packets
+      (All-push (Holds w.history w.declared (w.net ++ p ∷ [])) w.net p (all_hold_later laws.staying (prefix_same w.history) (prefix_same w.declared) (prefix_append w.net (p ∷ [])) core.agree.formed w.net core.packets) x.packet)
+  core_turned n s s' turn.Noted there x = core_switched laws w core n s s' w.net (prefix_same w.net) there x (λ other ne. refl) core.packets
+  core_turned n s s' (turn.Ignored reason) there x = core_switched laws w core n s s' w.net (prefix_same w.net) there x (λ other ne. refl) core.packets
+  core_turned n s s' turn.Full there x = core_switched laws w core n s s' w.net (prefix_same w.net) there x (λ other ne. refl) core.packets
+  core_turned n s s' turn.Spent there x = core_switched laws w core n s s' w.net (prefix_same w.net) there x (λ other ne. refl) core.packets
 
   core_to_switch : (refuse : Bool) (m : Message) (n : ℕ) (o : Option AbstractSwitch) → IsIn m w.net → switch_at w n ≡ o → Core (to_switch refuse w m n o).world
   core_to_switch refuse m n None i e = core
   core_to_switch refuse m n (Some s) i e =
       core_turned n s (switch_step refuse s m).switch (switch_step refuse s m).turn e
-      (switch_turn w.history w.declared w.net core.agree core.sourced n refuse s m (core.switches n s e) (each_in (Holds w.history w.declared w.net) core.packets i))
+      (switch_turn laws w.history w.declared w.net core.agree core.sourced n refuse s m (core.switches n s e) (each_in (Holds w.history w.declared w.net) core.packets i))
 
   -- ---- replicas
 
   core_acted : (n : ℕ) (r : Replica) (s : Stepped) (d : Did) → slice_get w.replicas n ≡ Some r → (d ≡ did.Done → StepSound w n s) → Core (acted w n s d).world
-  core_acted n r s did.Done there owed = core_stepped w core n r s there (owed refl)
+  core_acted n r s did.Done there owed = core_stepped laws w core n r s there (owed refl)
   core_acted n r s (did.Ignored reason) there owed = core
   core_acted n r s did.LogFull there owed = core
 
@@ -197,12 +196,12 @@ module _ (w : World) (core : Core w) where
 
   core_stops : (n : ℕ) (o : Option Replica) → Core (at_live w n (λ r. stops w n) o).world
   core_stops n None = core
-  core_stops n (Some r) = cond_both (is_stopped w n) (barred w bar.Stopped) (stops w n) (λ (x : Happened). Core x.world) (λ t. core) (λ t. core_moved w core w.cursor (w.stopped ++ n ∷ []) w.service refl)
+  core_stops n (Some r) = cond_both (is_stopped w n) (barred w bar.Stopped) (stops w n) (λ (x : Happened). Core x.world) (λ t. core) (λ t. core_moved laws w core w.cursor (w.stopped ++ n ∷ []) w.service refl)
 
   -- ---- the service
 
   core_noted : (n : Noted) (d : Did) → n.service.newest ≡ w.service.newest → Core (noted w n d).world
-  core_noted n did.Done same = core_moved w core w.cursor w.stopped n.service same
+  core_noted n did.Done same = core_moved laws w core w.cursor w.stopped n.service same
   core_noted n (did.Ignored reason) same = core
   core_noted n did.LogFull same = core
 
@@ -218,7 +217,7 @@ module _ (w : World) (core : Core w) where
       (λ a. cond_both (not (is_member w.service n)) (barred w bar.Member) (if not (is_stopped w n) then barred w bar.Live else if is_last w.service then barred w bar.Last else done) P (λ b. core)
       (λ b. cond_both (not (is_stopped w n)) (barred w bar.Live) (if is_last w.service then barred w bar.Last else done) P (λ c. core)
       (λ c. cond_both (is_last w.service) (barred w bar.Last) done P (λ d. core)
-      (λ d. core_posts there (core_moved w core w.cursor w.stopped s refl) outs
+      (λ d. core_posts laws there (core_moved laws w core w.cursor w.stopped s refl) outs
       (All-push (λ (m : Message). IsUnnumbered m.body) (map (config_to s) s.members) route (All-map (λ (m : Message). IsUnnumbered m.body) (config_to s) s.members (λ k x l. tt)) tt)
       (All-push (Holds w.history w.declared (w.net ++ outs)) (map (config_to s) s.members) route (All-map (Holds w.history w.declared (w.net ++ outs)) (config_to s) s.members (λ k x l. tt)) tt)))))
 
@@ -227,7 +226,7 @@ module _ (w : World) (core : Core w) where
       let s : Service = record w.service { retiring = true } in
       let there : World = record w { service = s } in
       let outs : List Message = map (refuse_to w.service) w.service.members in
-      core_posts there (core_moved w core w.cursor w.stopped s refl) outs
+      core_posts laws there (core_moved laws w core w.cursor w.stopped s refl) outs
       (All-map (λ (m : Message). IsUnnumbered m.body) (refuse_to w.service) w.service.members (λ k x l. tt))
       (All-map (Holds w.history w.declared (w.net ++ outs)) (refuse_to w.service) w.service.members (λ k x l. tt))
 
@@ -235,27 +234,27 @@ module _ (w : World) (core : Core w) where
   core_start = by_fault (start_fault w.service (live w))
     where
       by_fault : (f : Option StartFault) → Core (starts_or w f).world
-      by_fault None = core_started w core (starts w.service) refl
+      by_fault None = core_started laws w core (starts w.service) refl
       by_fault (Some fault) = core
 
   core_drops : (o : Option Message) → Core (drops w o).world
   core_drops None = core
-  core_drops (Some m) = core_moved w core (w.cursor + 1) w.stopped w.service refl
+  core_drops (Some m) = core_moved laws w core (w.cursor + 1) w.stopped w.service refl
 
 -- ---- arrivals
 
-module _ (w : World) (core : Core w) (owed : StepsSound w) (refuse : Bool) where
+module _ (laws : DueLaws) (w : World) (core : Core w) (owed : StepsSound w) (refuse : Bool) where
   core_to_replica : (m : Message) (n : ℕ) (o : Option Replica) → IsIn m w.net → m.dst ≡ node.Replica n → slice_get w.replicas n ≡ o → Core (to_replica w m n o).world
   core_to_replica m n None i d e = core
   core_to_replica m n (Some r) i d e =
       let s : Stepped = replica_step w.setup.kind r m in
-      cond_both (is_stopped w n) (ignored_at w why.Gone) (at_replica w n s) (λ (x : Happened). Core x.world) (λ t. core) (λ t. core_acted w core n r s s.did e (λ f. owed n s (record { replica = r; there = e; live = t; done = f; origin = Origin.Arrival m i d refl })))
+      cond_both (is_stopped w n) (ignored_at w why.Gone) (at_replica w n s) (λ (x : Happened). Core x.world) (λ t. core) (λ t. core_acted laws w core n r s s.did e (λ f. owed n s (record { replica = r; there = e; live = t; done = f; origin = Origin.Arrival m i d refl })))
 
   core_to_node : (m : Message) (n : Node) → IsIn m w.net → m.dst ≡ n → Core (to_node refuse w m n).world
-  core_to_node m (node.Client c) i d = core_to_client w core m.src c m.body (subst (λ (dst : Node). BodyHolds w.history w.declared w.net m.src dst m.body) d (each_in (Holds w.history w.declared w.net) core.packets i))
-  core_to_node m (node.Switch s) i d = core_to_switch w core refuse m s (switch_at w s) i refl
+  core_to_node m (node.Client c) i d = core_to_client laws w core m.src c m.body (subst (λ (dst : Node). BodyHolds w.history w.declared w.net m.src dst m.body) d (each_in (Holds w.history w.declared w.net) core.packets i))
+  core_to_node m (node.Switch s) i d = core_to_switch laws w core refuse m s (switch_at w s) i refl
   core_to_node m (node.Replica r) i d = core_to_replica m r (slice_get w.replicas r) i d refl
-  core_to_node m node.Config i d = core_noted w core (service_step w.service m) (service_step w.service m).did (newest_kept w.service m)
+  core_to_node m node.Config i d = core_noted laws w core (service_step w.service m) (service_step w.service m).did (newest_kept w.service m)
 
   core_deliver : (o : Option Message) → ((m : Message) → o ≡ Some m → IsIn m w.net) → Core (deliver refuse w o).world
   core_deliver None f = core
@@ -268,26 +267,26 @@ module _ (w : World) (core : Core w) (owed : StepsSound w) (refuse : Bool) where
 pub sent_in : (w : World) (i : ℕ) (m : Message) → sent_at w i ≡ Some m → IsIn m w.net
 sent_in w i m e = cond_both (i == 0) None (slice_get w.net (i - 1)) (λ (o : Option Message). o ≡ Some m → IsIn m w.net) (λ t e. absurd (none-some m e)) (λ t e. at_in w.net (i - 1) m e) e
 
-core_next : (w : World) (refuse : Bool) → Core w → StepsSound w → (o : Option Message) → slice_get w.net w.cursor ≡ o → Core (next refuse w o).world
-core_next w refuse core owed None e = core
-core_next w refuse core owed (Some m) e = core_deliver (passed w) (core_moved w core (w.cursor + 1) w.stopped w.service refl) (passed_owed w owed) refuse (Some m) (λ x s. at_in w.net w.cursor x (e ∙ s))
+core_next : DueLaws → (w : World) (refuse : Bool) → Core w → StepsSound w → (o : Option Message) → slice_get w.net w.cursor ≡ o → Core (next refuse w o).world
+core_next laws w refuse core owed None e = core
+core_next laws w refuse core owed (Some m) e = core_deliver laws (passed w) (core_moved laws w core (w.cursor + 1) w.stopped w.service refl) (passed_owed w owed) refuse (Some m) (λ x s. at_in w.net w.cursor x (e ∙ s))
 
 -- ---- any event
 
-pub core_happens : (w : World) (e : Event) (refuse : Bool) → Core w → StepsSound w → Core (happens w e refuse).world
-core_happens w (Event.Write client object value switch) refuse core owed = core_invokes w core client (want.Write object value) switch
-core_happens w (Event.Read client object switch) refuse core owed = core_invokes w core client (want.Read object) switch
-core_happens w (Event.Resend client switch) refuse core owed =
-    cond_both (is_some (switch_at w switch)) (resends w (client_of w client) (client_of w client).outstanding switch) (barred w bar.NoSwitch) (λ (x : Happened). Core x.world) (λ t. core_resends w core client (client_of w client).outstanding switch refl) (λ t. core)
-core_happens w (Event.Deliver packet) refuse core owed = core_deliver w core owed refuse (sent_at w packet) (λ m e. sent_in w packet m e)
-core_happens w Event.Next refuse core owed = core_next w refuse core owed (slice_get w.net w.cursor) refl
-core_happens w Event.Drop refuse core owed = core_drops w core (slice_get w.net w.cursor)
-core_happens w (Event.Tick replica) refuse core owed = core_at_live w core replica (replica_tick w.setup.kind) (slice_get w.replicas replica) refl (λ r t l d. owed replica (replica_tick w.setup.kind r) (record { replica = r; there = t; live = l; done = d; origin = Origin.Tick refl }))
-core_happens w (Event.Stop replica) refuse core owed = core_stops w core replica (slice_get w.replicas replica)
-core_happens w (Event.Remove replica) refuse core owed = core_removal w core replica
-core_happens w (Event.Timeout replica) refuse core owed =
+pub core_happens : DueLaws → (w : World) (e : Event) (refuse : Bool) → Core w → StepsSound w → Core (happens w e refuse).world
+core_happens laws w (Event.Write client object value switch) refuse core owed = core_invokes laws w core client (want.Write object value) switch
+core_happens laws w (Event.Read client object switch) refuse core owed = core_invokes laws w core client (want.Read object) switch
+core_happens laws w (Event.Resend client switch) refuse core owed =
+    cond_both (is_some (switch_at w switch)) (resends w (client_of w client) (client_of w client).outstanding switch) (barred w bar.NoSwitch) (λ (x : Happened). Core x.world) (λ t. core_resends laws w core client (client_of w client).outstanding switch refl) (λ t. core)
+core_happens laws w (Event.Deliver packet) refuse core owed = core_deliver laws w core owed refuse (sent_at w packet) (λ m e. sent_in w packet m e)
+core_happens laws w Event.Next refuse core owed = core_next laws w refuse core owed (slice_get w.net w.cursor) refl
+core_happens laws w Event.Drop refuse core owed = core_drops laws w core (slice_get w.net w.cursor)
+core_happens laws w (Event.Tick replica) refuse core owed = core_at_live laws w core replica (replica_tick w.setup.kind) (slice_get w.replicas replica) refl (λ r t l d. owed replica (replica_tick w.setup.kind r) (record { replica = r; there = t; live = l; done = d; origin = Origin.Tick refl }))
+core_happens laws w (Event.Stop replica) refuse core owed = core_stops laws w core replica (slice_get w.replicas replica)
+core_happens laws w (Event.Remove replica) refuse core owed = core_removal laws w core replica
+core_happens laws w (Event.Timeout replica) refuse core owed =
     cond_both (is_fixed w.setup.kind) (at_live w replica (λ r. at_replica w replica (vr_timeout r)) (slice_get w.replicas replica)) (barred w bar.NotVr) (λ (x : Happened). Core x.world)
-    (λ t. core_at_live w core replica vr_timeout (slice_get w.replicas replica) refl (λ r there l d. owed replica (vr_timeout r) (record { replica = r; there = there; live = l; done = d; origin = Origin.Timeout t refl }))) (λ t. core)
-core_happens w Event.Retire refuse core owed = core_retires w core
-core_happens w Event.Start refuse core owed = core_start w core
-core_happens w (Event.Raw spelled) refuse core owed = core_raw w core owed refuse spelled
+    (λ t. core_at_live laws w core replica vr_timeout (slice_get w.replicas replica) refl (λ r there l d. owed replica (vr_timeout r) (record { replica = r; there = there; live = l; done = d; origin = Origin.Timeout t refl }))) (λ t. core)
+core_happens laws w Event.Retire refuse core owed = core_retires laws w core
+core_happens laws w Event.Start refuse core owed = core_start laws w core
+core_happens laws w (Event.Raw spelled) refuse core owed = core_raw laws w core owed refuse spelled

@@ -1,8 +1,8 @@
 -- The core facts as a world grows in one of its parts.
-use Rattle.std.proofs.Common.{◌≡◌, ℕ, ◌+◌, ◌-◌, ◌<◌, List, [], ◌∷◌, ◌++◌, length, take, drop, Some, None, sym, ap, subst, ◌∙◌, arith, inl, inr}
+use Rattle.std.proofs.Common.{◌≡◌, ℕ, ◌+◌, ◌-◌, ◌<◌, List, [], ◌∷◌, ◌++◌, length, take, drop, Some, None, refl, sym, ap, subst, ◌∙◌, arith, inl, inr}
 use Rattle.std.specs.Prelude.{map, nat_lt, slice_get, slice_set, All}
 use Rattle.std.proofs.lemmas.Bool.{cases_eq, cond_both}
-use Rattle.std.proofs.lemmas.List.{append-nil, length-append}
+use Rattle.std.proofs.lemmas.List.{append-nil, drop_at, length-append}
 use Rattle.std.proofs.Math.ListN.{length-set}
 use Rattle.std.proofs.lemmas.List.Elements.{All-append, All-drop, All-take, All-weaker, All-nil}
 use Rattle.std.proofs.lemmas.Option.{none-some, same_Some, slice_get_past}
@@ -12,12 +12,11 @@ use Rattle.hm_base.specs.Logs.{writes}
 use Rattle.hm_base.proofs.ListLaws.{prefix_same, prefix_append, prefix_take, at_push_cases, set_same, set_other, set_none, set_at, push_none}
 use Rattle.hm_packet.specs.Messages.{Message}
 use Rattle.hm_order.specs.declared.mark.Mark.{Mark}
-use Rattle.hm_order.specs.Marks.{At}
+use Rattle.hm_order.specs.Marks.{At, commits_for}
 use Rattle.hm_due_law.specs.Tidy.{IsTidy}
 use Rattle.hm_due_law.specs.Declared.{WasInvoked}
 use Rattle.hm_due_law.specs.Agreed.{Agree}
-use Rattle.hm_due_law.proofs.Tidies.{tidy_prefix}
-use Rattle.hm_due_law.proofs.Agreeing.{agree_longer}
+use Rattle.hm_due_law.specs.Laws.{DeclaringKeepsAgreement}
 use Rattle.hm_rules.specs.Switch.{AbstractSwitch}
 use Rattle.hm_rules.specs.Replica.{Replica}
 use Rattle.hm_rules.specs.ReplicaSteps.{Stepped}
@@ -30,16 +29,21 @@ use Rattle.hm_core_laws.specs.Packets.{Holds}
 use Rattle.hm_core_laws.specs.Core.{SwitchHolds, ClientHolds, ReplicaHolds, Core}
 use Rattle.hm_core_laws.specs.Owed.{declared_by, StepSound}
 use Rattle.hm_core_laws.proofs.Sources.{IsUnnumbered, puts_rest, replicas_unnumbered, all_sourced_later}
+use Rattle.hm_core_laws.proofs.Laws.{DueLaws}
 use Rattle.hm_core_laws.proofs.HoldsLater.{all_hold_later, list_later, replica_later, switch_later}
-use Rattle.hm_core_laws.proofs.ListSteps.{switch_in, switch_there, switch_from, switch_none}
+use Rattle.hm_core_laws.proofs.Switches.{switch_in, switch_there, switch_from, switch_none}
 use Rattle.hm_core_laws.proofs.Clients.{client_in, client_commits}
 
 -- a declared list of requests that were made grows in order
-pub agrees : (w : World) (s : Stepped) → Agree w.history w.declared → IsPrefix w.declared (declared_by w s) → IsTidy (declared_by w s) → All (IsSourced w.history w.net) (declared_by w s) → Agree (w.history ++ commits_since w.declared (declared_by w s)) (declared_by w s)
-agrees w s agree p tidy sourced =
-    agree_longer w.history w.declared (declared_by w s) agree p tidy (All-drop (WasInvoked w.history) (length w.declared) (declared_by w s) (All-weaker (IsSourced w.history w.net) (WasInvoked w.history) (λ e x. x.invoked) (declared_by w s) sourced))
+pub agrees : DeclaringKeepsAgreement → (w : World) (s : Stepped) → Agree w.history w.declared → IsPrefix w.declared (declared_by w s) → IsTidy (declared_by w s) → All (IsSourced w.history w.net) (declared_by w s) → Agree (w.history ++ commits_since w.declared (declared_by w s)) (declared_by w s)
+agrees declaring w s agree p tidy sourced =
+    let k : List Entry = declared_by w s in
+    let invoked : All (WasInvoked w.history) (drop (length w.declared) k) = All-drop (WasInvoked w.history) (length w.declared) k (All-weaker (IsSourced w.history w.net) (WasInvoked w.history) (λ e x. x.invoked) k sourced) in
+    let rest : drop (length w.declared) k ≡ p.rest = ap (λ (l : List Entry). drop (length w.declared) l) (sym p.parts) ∙ drop_at w.declared p.rest (length w.declared) refl in
+    let grown : Agree (w.history ++ commits_for p.rest) (w.declared ++ p.rest) = declaring w.history w.declared p.rest agree (subst IsTidy (sym p.parts) tidy) (subst (All (WasInvoked w.history)) rest invoked) in
+    subst (λ (l : List Entry). Agree (w.history ++ commits_for l) k) (sym rest) (subst (Agree (w.history ++ commits_for p.rest)) p.parts grown)
 
-module _ (w : World) (core : Core w) where
+module _ (laws : DueLaws) (w : World) (core : Core w) where
   -- ---- everything but the switches
 
   -- true packets without numbers are sent; marks, entries, clients and replicas follow
@@ -52,7 +56,7 @@ module _ (w : World) (core : Core w) where
   core_grown h k outs clients replicas f p agree sourced u all known kept = record {
     agree = agree;
     sourced = sourced;
-    packets = All-append (Holds h k (w.net ++ outs)) w.net outs (all_hold_later f p (prefix_append w.net outs) core.agree.formed w.net core.packets) all;
+    packets = All-append (Holds h k (w.net ++ outs)) w.net outs (all_hold_later laws.staying f p (prefix_append w.net outs) core.agree.formed w.net core.packets) all;
     switches = λ number s t. switch_later number s p (puts_rest number w.net outs u) (core.switches number s t);
     unstarted = λ number t. puts_rest number w.net outs u ∙ core.unstarted number t;
     newest = core.newest;
@@ -71,7 +75,7 @@ module _ (w : World) (core : Core w) where
       → Core (record w { net = w.net ++ outs; clients = clients; history = h })
   core_goes_on h outs clients f agree u all known =
       core_grown h w.declared outs clients w.replicas f (prefix_same w.declared) agree (sourced_on h outs f) u all known
-      (λ number r t. replica_later f (prefix_same w.declared) (prefix_append w.net outs) core.agree.formed r (core.replicas number r t))
+      (λ number r t. replica_later laws.staying f (prefix_same w.declared) (prefix_append w.net outs) core.agree.formed r (core.replicas number r t))
 
   pub core_posts : (outs : List Message) → All (λ (m : Message). IsUnnumbered m.body) outs → All (Holds w.history w.declared (w.net ++ outs)) outs → Core (posts w outs)
   core_posts outs u all = core_goes_on w.history outs w.clients (prefix_same w.history) core.agree u all core.clients
@@ -127,7 +131,7 @@ module _ (w : World) (core : Core w) where
       unstarted = unstarted_now;
       newest = core.newest ∙ sym (length-set w.switches (number - 1) s');
       clients = core.clients;
-      replicas = λ n r t. replica_later (prefix_same w.history) (prefix_same w.declared) q core.agree.formed r (core.replicas n r t);
+      replicas = λ n r t. replica_later laws.staying (prefix_same w.history) (prefix_same w.declared) q core.agree.formed r (core.replicas n r t);
     }
 
   -- a switch of the next number is started
@@ -179,11 +183,11 @@ module _ (w : World) (core : Core w) where
     declared_sourced = cond_both (nat_lt (length w.declared) s.declared.to) (take s.declared.to s.replica.log) w.declared (All (IsSourced w.history w.net)) (λ t. All-take (IsSourced w.history w.net) s.declared.to s.replica.log owed.log.sourced) (λ t. core.sourced)
 
     declared_tidy : IsTidy (declared_by w s)
-    declared_tidy = cond_both (nat_lt (length w.declared) s.declared.to) (take s.declared.to s.replica.log) w.declared IsTidy (λ t. tidy_prefix (prefix_take s.declared.to s.replica.log) owed.log.tidy) (λ t. core.agree.records.tidy)
+    declared_tidy = cond_both (nat_lt (length w.declared) s.declared.to) (take s.declared.to s.replica.log) w.declared IsTidy (λ t. laws.tidy _ _ (prefix_take s.declared.to s.replica.log) owed.log.tidy) (λ t. core.agree.records.tidy)
 
     -- history and declared list go on agreeing
     pub agree_after : Agree (stepped w number s).history (stepped w number s).declared
-    agree_after = agrees w s core.agree owed.declared declared_tidy declared_sourced
+    agree_after = agrees laws.declaring w s core.agree owed.declared declared_tidy declared_sourced
 
     history_after : IsPrefix w.history (stepped w number s).history
     history_after = prefix_append w.history (commits_since w.declared (declared_by w s))
@@ -191,11 +195,11 @@ module _ (w : World) (core : Core w) where
     replica_now : (n : ℕ) (x : Replica) → slice_get (slice_set w.replicas number s.replica) n ≡ Some x → ReplicaHolds (stepped w number s).history (declared_by w s) (w.net ++ s.outs) x
     replica_now n x t = elim (set_at w.replicas number n s.replica x t) [
       | inl new ↦ subst (λ (y : Replica). ReplicaHolds (stepped w number s).history (declared_by w s) (w.net ++ s.outs) y) new.1 (record {
-        log = list_later history_after owed.declared (prefix_append w.net s.outs) core.agree.formed s.replica.log owed.log;
-        staged = list_later history_after owed.declared (prefix_append w.net s.outs) core.agree.formed _ owed.staged;
+        log = list_later laws.staying history_after owed.declared (prefix_append w.net s.outs) core.agree.formed s.replica.log owed.log;
+        staged = list_later laws.staying history_after owed.declared (prefix_append w.net s.outs) core.agree.formed _ owed.staged;
         applied = owed.applied;
       })
-      | inr old ↦ replica_later history_after owed.declared (prefix_append w.net s.outs) core.agree.formed x (core.replicas n x old.1)
+      | inr old ↦ replica_later laws.staying history_after owed.declared (prefix_append w.net s.outs) core.agree.formed x (core.replicas n x old.1)
     ]
 
     pub core_stepped : Core (stepped w number s)

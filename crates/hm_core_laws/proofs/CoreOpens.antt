@@ -5,8 +5,7 @@ use Rattle.std.proofs.lemmas.List.Elements.{All-nil}
 use Rattle.std.proofs.lemmas.Option.{none-some, same_Some}
 use Rattle.hm_base.proofs.ListLaws.{prefix_nil, at_push_cases, map_at}
 use Rattle.hm_order.specs.Marks.{At}
-use Rattle.hm_due_law.proofs.Agreeing.{agree_nil}
-use Rattle.hm_due_law.proofs.Tidies.{tidy_nil}
+use Rattle.hm_due_law.specs.Agreed.{Agree}
 use Rattle.hm_rules.specs.Switch.{AbstractSwitch}
 use Rattle.hm_rules.specs.Replica.{Replica, opened}
 use Rattle.hm_rules.specs.Service.{served, replicas_below}
@@ -15,9 +14,9 @@ use Rattle.hm_rules.specs.World.{starts_switch, opened_replicas, opens}
 use Rattle.hm_core_laws.specs.Sourced.{IsSourced}
 use Rattle.hm_core_laws.specs.Packets.{Holds}
 use Rattle.hm_core_laws.specs.Core.{SwitchHolds, ReplicaHolds, Core}
-use Rattle.hm_core_laws.proofs.ListSteps.{switch_in, switch_there}
+use Rattle.hm_core_laws.proofs.Switches.{switch_in, switch_there}
 
-module _ (setup : Setup) where
+module _ (agree : Agree [] []) (setup : Setup) where
   first : AbstractSwitch
   first = starts_switch setup (served setup.kind setup.size)
 
@@ -43,15 +42,15 @@ module _ (setup : Setup) where
   empty n r t =
       let from : (me : ℕ) × At (replicas_below setup.size) n me × (opened me (replicas_below setup.size) setup.cap ≡ r) = map_at (λ (me : ℕ). opened me (replicas_below setup.size) setup.cap) (replicas_below setup.size) n r t in
       subst (ReplicaHolds [] [] []) from.2 (record {
-        log = record { sourced = All-nil (IsSourced [] []); tidy = tidy_nil };
-        staged = record { sourced = All-nil (IsSourced [] []); tidy = tidy_nil };
+        log = record { sourced = All-nil (IsSourced [] []); tidy = record { stamps = tt; requests = tt } };
+        staged = record { sourced = All-nil (IsSourced [] []); tidy = record { stamps = tt; requests = tt } };
         applied = prefix_nil [];
       })
 
   pub core_opens : Core (opens setup)
   unfolding first
   core_opens = record {
-    agree = agree_nil;
+    agree = agree;
     sourced = All-nil (IsSourced [] []);
     packets = All-nil (Holds [] [] []);
     switches = begins;

@@ -13,27 +13,29 @@ use Rattle.hm_order.specs.declared.mark.Mark.{Mark}
 use Rattle.hm_order.specs.declared.mark.Want.TheVariants as want
 use Rattle.hm_order.specs.Marks.{At, invoked_at}
 use Rattle.hm_order.specs.Legal.{IsWellFormed}
-use Rattle.hm_due_law.proofs.Later.{invoked_later, want_later, due_later, fresh_later, has_write_later}
+use Rattle.hm_due_law.specs.Tidy.{HasWrite}
 use Rattle.hm_rules.specs.Senders.{number}
 use Rattle.hm_rules.specs.Switch.{AbstractSwitch}
 use Rattle.hm_rules.specs.Replica.{Replica}
 use Rattle.hm_core_laws.specs.Sourced.{puts}
 use Rattle.hm_core_laws.specs.Packets.{op, BodyHolds, Holds}
 use Rattle.hm_core_laws.specs.Core.{SwitchHolds, ListHolds, ReplicaHolds}
+use Rattle.hm_core_laws.proofs.Laws.{Staying}
 use Rattle.hm_core_laws.proofs.Sources.{sourced_later, all_sourced_later}
+use Rattle.hm_order.proofs.Positions.{invoked_later, want_later}
 
-module _ {h h' : List Mark} {k k' : List Entry} {net net' : List Message} (f : IsPrefix h h') (p : IsPrefix k k') (q : IsPrefix net net') (formed : IsWellFormed h) where
+module _ {h h' : List Mark} {k k' : List Entry} {net net' : List Message} (staying : Staying) (f : IsPrefix h h') (p : IsPrefix k k') (q : IsPrefix net net') (formed : IsWellFormed h) where
   body_later : (src dst : Node) (b : Body) → BodyHolds h k net src dst b → BodyHolds h' k' net' src dst b
   body_later src dst (body.Read read) x = want_later (op (number src) read.request) (want.Read read.object) f x
   body_later src dst (body.Write write) x = want_later (op (number src) write.request) (want.Write write.object write.value) f x
   body_later src dst (body.Put put) x = sourced_later _ f q x
-  body_later src dst (body.FastRead read) x = fresh_later (op read.client read.request) read.object read.stamp f p formed x
+  body_later src dst (body.FastRead read) x = staying.fresh h h' k k' (op read.client read.request) read.object read.stamp f p formed x
   body_later src dst (body.NormalRead read) x = want_later (op read.client read.request) (want.Read read.object) f x
   body_later src dst (body.Done done) x = record { place = x.place; entry = x.entry; there = prefix_at x.place x.entry p x.there; write = x.write; stamp = x.stamp; operation = x.operation }
   body_later src dst (body.Reply reply) x = record {
     invoked = (let e : invoked_at h' (op (number dst) reply.request) ≡ invoked_at h (op (number dst) reply.request) = invoked_later (op (number dst) reply.request) f x.invoked in
         let l : invoked_at h (op (number dst) reply.request) < length h = x.invoked in omega (arith, prefix-length f));
-    due = due_later f formed (op (number dst) reply.request) x.invoked (reply.version, reply.answer) x.due;
+    due = staying.due h h' (op (number dst) reply.request) (reply.version, reply.answer) f formed x.due;
   }
   body_later src dst (body.Ask ask) x = record { object = x.object; value = x.value; asked = want_later (op ask.client ask.request) (want.Write x.object x.value) f x.asked }
   body_later src dst (body.Feed feed) x = all_sourced_later feed.entries f q x
@@ -59,5 +61,5 @@ switch_later {k} {k'} {net} {net'} number s p same x = record {
   objects = subst (λ (l : List Entry). map (λ (e : Entry). e.object) l ≡ s.numbered) (sym same) x.objects;
   stamps = λ i e a. x.stamps i e (subst (λ (l : List Entry). At l i e) same a);
   reached = x.reached;
-  point = λ l. has_write_later (record { switch = number; seq = s.point }) p (x.point l);
+  point = λ l. let w : HasWrite k (record { switch = number; seq = s.point }) = x.point l in record { place = w.place; entry = w.entry; there = prefix_at w.place w.entry p w.there; write = w.write; same = w.same };
 }

@@ -1,6 +1,7 @@
+pub mod Laws
 pub mod Sources
 pub mod HoldsLater
-pub mod ListSteps
+pub mod Switches
 mod Switching
 mod Clients
 pub mod CoreGrows

@@ -11,7 +11,9 @@ use Rattle.hm_packet.specs.declared.body.Body.{Body}
 use Rattle.hm_packet.specs.declared.body.Body.TheVariants as body
 use Rattle.hm_packet.specs.Messages.{Message}
 use Rattle.hm_order.specs.declared.mark.Mark.{Mark}
-use Rattle.hm_due_law.proofs.Later.{was_invoked_later}
+use Rattle.hm_order.proofs.Positions.{want_later}
+use Rattle.hm_order.specs.Marks.{op_of}
+use Rattle.hm_due_law.specs.Declared.{wanted}
 use Rattle.hm_rules.specs.Senders.{replica_sends}
 use Rattle.hm_core_laws.specs.Sourced.{numbered_by, puts, IsNumbered, IsSourced}
 
@@ -88,7 +90,7 @@ pub numbered_later : {net net' : List Message} (e : Entry) → IsPrefix net net'
 numbered_later e q n = record { above = n.above; place = prefix_at (e.stamp.seq - 1) e (puts_prefix e.stamp.switch q) n.place }
 
 pub sourced_later : {h h' : List Mark} {net net' : List Message} (e : Entry) → IsPrefix h h' → IsPrefix net net' → IsSourced h net e → IsSourced h' net' e
-sourced_later e f q s = record { invoked = was_invoked_later e f s.invoked; numbered = λ w. numbered_later e q (s.numbered w) }
+sourced_later e f q s = record { invoked = want_later (op_of e) (wanted e.object e.act) f s.invoked; numbered = λ w. numbered_later e q (s.numbered w) }
 
 pub all_sourced_later : {h h' : List Mark} {net net' : List Message} (log : List Entry) → IsPrefix h h' → IsPrefix net net' → All (IsSourced h net) log → All (IsSourced h' net') log
 all_sourced_later {h} {h'} {net} {net'} log f q all = All-weaker (IsSourced h net) (IsSourced h' net') (λ e s. sourced_later e f q s) log all

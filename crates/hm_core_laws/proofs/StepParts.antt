@@ -13,10 +13,9 @@ use Rattle.hm_base.proofs.ListLaws.{prefix_same, prefix_append, prefix_then, pre
 use Rattle.hm_packet.specs.Messages.{Message}
 use Rattle.hm_order.specs.declared.mark.Mark.{Mark}
 use Rattle.hm_order.specs.Marks.{At, op_of}
-use Rattle.hm_order.proofs.Growth.{want_invoked}
 use Rattle.hm_due_law.specs.Declared.{wanted, WasInvoked}
 use Rattle.hm_due_law.specs.Agreed.{Agree}
-use Rattle.hm_due_law.proofs.ReadAnswers.{look_due}
+use Rattle.hm_due_law.specs.Laws.{LookAnswerIsDue}
 use Rattle.hm_rules.specs.Senders.{replica_sends}
 use Rattle.hm_rules.specs.Replica.{Replica}
 use Rattle.hm_rules.specs.ReplicaSteps.{sends, max_answered, answer_act, answer_entry, declares}
@@ -25,7 +24,9 @@ use Rattle.hm_rules.specs.World.{World}
 use Rattle.hm_core_laws.specs.Packets.{IsCompletion, Holds}
 use Rattle.hm_core_laws.specs.Core.{ReplicaHolds, Core}
 use Rattle.hm_core_laws.specs.Owed.{declared_by, StepSound}
+use Rattle.hm_core_laws.proofs.Laws.{Staying}
 use Rattle.hm_core_laws.proofs.HoldsLater.{all_hold_later}
+use Rattle.hm_order.proofs.Positions.{want_invoked}
 
 -- ---- a step that leaves the lists
 
@@ -36,20 +37,20 @@ undeclared k log = cond_both (nat_lt (length k) 0) (take 0 log) k (λ (l : List 
 pub nothing_declared : (k log : List Entry) → declared_after k log 0 ≡ k
 nothing_declared k log = cond_both (nat_lt (length k) 0) (take 0 log) k (λ (l : List Entry). l ≡ k) (λ t. absurd (let l : length k < 0 = ltb-true (length k) 0 t in omega arith)) (λ t. refl)
 
-pub quiet_sound : (w : World) → Core w → (number : ℕ) (r : Replica) (outs : List Message) → ReplicaHolds w.history w.declared w.net r
+pub quiet_sound : Staying → (w : World) → Core w → (number : ℕ) (r : Replica) (outs : List Message) → ReplicaHolds w.history w.declared w.net r
     → All (λ (m : Message). IsTrue (replica_sends m.body)) outs → All (Holds w.history w.declared (w.net ++ outs)) outs → StepSound w number (sends r outs)
-quiet_sound w core number r outs holds senders sent = record {
+quiet_sound staying w core number r outs holds senders sent = record {
   log = holds.log;
   staged = holds.staged;
   declared = undeclared w.declared r.log;
   applied = prefix_then holds.applied (undeclared w.declared r.log);
   senders = senders;
-  sent = all_hold_later (prefix_append w.history (commits_since w.declared (declared_by w (sends r outs)))) (undeclared w.declared r.log) (prefix_same (w.net ++ outs)) core.agree.formed outs sent;
+  sent = all_hold_later staying (prefix_append w.history (commits_since w.declared (declared_by w (sends r outs)))) (undeclared w.declared r.log) (prefix_same (w.net ++ outs)) core.agree.formed outs sent;
 }
 
 -- ---- the answers to a declared range
 
-module _ (h : List Mark) (k : List Entry) (net : List Message) (r : Replica) (from to : ℕ) (agree : Agree h k) (p : IsPrefix (take to r.log) k) where
+module _ (look : LookAnswerIsDue) (h : List Mark) (k : List Entry) (net : List Message) (r : Replica) (from to : ℕ) (agree : Agree h k) (p : IsPrefix (take to r.log) k) where
   after : Replica
   after = record r { known = to }
 
@@ -68,7 +69,7 @@ module _ (h : List Mark) (k : List Entry) (net : List Message) (r : Replica) (fr
       by_act (act.Put value) s = completion e i there (ap is_put s)
       by_act act.Look s = record {
         invoked = want_invoked h (op_of e) (wanted e.object e.act) (each_at (WasInvoked h) k i e agree.records.invoked there);
-        due = look_due h k (take to r.log) i e agree.records agree.looks p a (ap is_put s);
+        due = look h k (take to r.log) i e agree.records agree.looks p a (ap is_put s);
       }
 
   pub answers_hold : All (Holds h k net) (declares r from to).outs

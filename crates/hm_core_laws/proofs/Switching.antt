@@ -26,13 +26,10 @@ use Rattle.hm_packet.specs.Routing.{Routing}
 use Rattle.hm_order.specs.declared.mark.Mark.{Mark}
 use Rattle.hm_order.specs.declared.mark.Want.TheVariants as want
 use Rattle.hm_order.specs.Marks.{At, invoked_at, op_of}
-use Rattle.hm_order.proofs.Growth.{want_invoked}
 use Rattle.hm_due_law.specs.Tidy.{HasWrite}
 use Rattle.hm_due_law.specs.Declared.{wanted, WasInvoked}
 use Rattle.hm_due_law.specs.Answers.{IsDueNow, IsClean}
 use Rattle.hm_due_law.specs.Agreed.{Agree}
-use Rattle.hm_due_law.proofs.Fresh.{clean_is_fresh}
-use Rattle.hm_due_law.proofs.ReadAnswers.{completion_due}
 use Rattle.hm_rules.specs.Senders.{same_node, number, may_send}
 use Rattle.hm_rules.specs.Switch.{AbstractSwitch, is_active, is_dirty, may_refuse, Turned, ignoring, sending, own_stamp, member_in_turn, on_read, on_write, answers_done, on_done, on_route, switch_takes, on_body, on_packet, switch_step}
 use Rattle.hm_rules.specs.ReplicaSteps.{entry_of}
@@ -40,8 +37,10 @@ use Rattle.hm_core_laws.specs.Sourced.{numbered_by, puts, IsNumbered, IsSourced}
 use Rattle.hm_core_laws.specs.Packets.{op, WasAsked, IsCompletion, BodyHolds, Holds}
 use Rattle.hm_core_laws.specs.Core.{SwitchHolds}
 use Rattle.hm_core_laws.proofs.Sources.{IsUnnumbered, unnumbered, puts_append, puts_rest}
+use Rattle.hm_core_laws.proofs.Laws.{DueLaws}
 use Rattle.hm_core_laws.proofs.HoldsLater.{switch_later}
-use Rattle.hm_core_laws.proofs.ListSteps.{stands_behind}
+use Rattle.hm_core_laws.proofs.Switches.{stands_behind}
+use Rattle.hm_order.proofs.Positions.{want_invoked}
 
 -- the switch sent a true packet, which gives no other switch a number
 pub record SentHolds (h : List Mark) (k : List Entry) (net : List Message) (n : ℕ) (s : AbstractSwitch) (p : Message) : Type 0 where
@@ -60,7 +59,7 @@ TurnHolds h k net n s turn.Spent = SwitchHolds k net n s
 rebuilt : {k : List Entry} {net : List Message} {n : ℕ} {s : AbstractSwitch} (stamped handled : ℕ) (route : Routing) → SwitchHolds k net n s → SwitchHolds k net n (record s { stamped = stamped; handled = handled; route = route })
 rebuilt stamped handled route x = record { id = x.id; objects = x.objects; stamps = x.stamps; reached = x.reached; point = x.point }
 
-module _ (h : List Mark) (k : List Entry) (net : List Message) (agree : Agree h k) (sourced : All (IsSourced h net) k) (n : ℕ) where
+module _ (laws : DueLaws) (h : List Mark) (k : List Entry) (net : List Message) (agree : Agree h k) (sourced : All (IsSourced h net) k) (n : ℕ) where
   abbrev Turns : Turned → Type 0
   Turns t = TurnHolds h k net n t.switch t.turn
 
@@ -96,7 +95,7 @@ module _ (h : List Mark) (k : List Entry) (net : List Message) (agree : Agree h 
       let active : 0 < s.point = ltb-true 0 s.point both.0 in
       let has : HasWrite k (own_stamp s s.point) = subst (λ (m : ℕ). HasWrite k (record { switch = m; seq = s.point })) (sym x.id) (x.point active) in
       sends stamped (node.Replica (member_in_turn s)) fast tt (rebuilt (s.stamped + 1) s.handled s.route x)
-      (clean_is_fresh h k (op client read.request) read.object (own_stamp s s.point) agree.records active asked has (clean s read.object x (not-true _ both.1)))))
+      (laws.clean h k (op client read.request) read.object (own_stamp s s.point) agree.records active asked has (clean s read.object x (not-true _ both.1)))))
       (λ t. sends s (node.Replica s.route.normal) normal tt x asked)
 
   -- ---- a write
@@ -164,7 +163,7 @@ module _ (h : List Mark) (k : List Entry) (net : List Message) (agree : Agree h 
   answers_turn : (s : AbstractSwitch) (done : Done) → SwitchHolds k net n s → IsCompletion k done → Turns (answers_done s done)
   answers_turn s done x c =
       let asked : WasInvoked h c.entry = each_at (WasInvoked h) k c.place c.entry agree.records.invoked c.there in
-      let due : IsDueNow h (op_of c.entry) (c.entry.stamp, Wrote) = completion_due h k c.place c.entry agree.records c.there c.write in
+      let due : IsDueNow h (op_of c.entry) (c.entry.stamp, Wrote) = laws.completion h k c.place c.entry agree.records c.there c.write in
       sends s (node.Client done.client) (body.Reply (record { request = done.request; version = done.stamp; answer = Wrote })) tt x (record {
         invoked = subst (λ (o : OpId). invoked_at h o < length h) c.operation (want_invoked h (op_of c.entry) (wanted c.entry.object c.entry.act) asked);
         due = subst (λ (o : OpId). IsDueNow h o (done.stamp, Wrote)) c.operation (subst (λ (t : Stamp). IsDueNow h (op_of c.entry) (t, Wrote)) c.stamp due);

@@ -6,6 +6,7 @@ pub mod Accepted
 pub mod Owed
 pub mod Epochs
 pub mod Later
+pub mod Laws
 pub use Rattle.hm_due_law.specs.Tidy
 pub use Rattle.hm_due_law.specs.Declared
 pub use Rattle.hm_due_law.specs.Answers

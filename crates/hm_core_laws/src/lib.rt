@@ -2,5 +2,7 @@
 //! declared list and of the history. No protocol is named here.
 #![tactic(auto)]
 
+pub mod epochs;
 pub mod events;
+pub mod later;
 pub mod steps;

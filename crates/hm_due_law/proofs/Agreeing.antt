@@ -21,15 +21,15 @@ use Rattle.hm_order.specs.declared.mark.Mark.TheVariants.{Invoke, Commit, Reply}
 use Rattle.hm_order.specs.declared.mark.Want.{Want}
 use Rattle.hm_order.specs.Marks.{At, invoked_at, committed_at, replied_at, op_of, commit_of, commits_for}
 use Rattle.hm_order.specs.Legal.{IsWellFormed, IsDue}
-use Rattle.hm_order.proofs.Positions.{commit_found}
-use Rattle.hm_order.proofs.Growth.{want_invoked, formed_nil, formed_invoke, formed_commit, formed_reply, all_due_nil, all_due_push}
+use Rattle.hm_order.proofs.Positions.{commit_found, want_invoked, invoked_later}
+use Rattle.hm_order.proofs.Growth.{formed_nil, formed_invoke, formed_commit, formed_reply, all_due_nil, all_due_push}
 use Rattle.hm_due_law.specs.Tidy.{IsTidy}
 use Rattle.hm_due_law.specs.Declared.{wanted, WasInvoked, is_commit, commit_marks, Records, LooksComeFirst}
 use Rattle.hm_due_law.specs.Answers.{IsDueNow}
 use Rattle.hm_due_law.specs.Agreed.{Agree}
 use Rattle.hm_due_law.proofs.Tidies.{follows, rises_back, tidy_nil, tidy_prefix, tidy_at, tidy_write, operation_once, stamp_once}
 use Rattle.hm_due_law.proofs.Commits.{IsOfWrite, commit_of_write}
-use Rattle.hm_due_law.proofs.Later.{invoked_later, was_invoked_later}
+use Rattle.hm_due_law.proofs.Later.{was_invoked_later}
 
 -- ---- at the beginning
 

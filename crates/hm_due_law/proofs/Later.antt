@@ -15,23 +15,12 @@ use Rattle.hm_order.specs.declared.mark.Want.{Want}
 use Rattle.hm_order.specs.declared.mark.Want.TheVariants.{Read, Write}
 use Rattle.hm_order.specs.Marks.{At, invokes, invoked_at, want_in, want_of, op_of}
 use Rattle.hm_order.specs.Legal.{IsWellFormed, WritesAt, IsSeen}
-use Rattle.hm_order.proofs.Positions.{invoke_found, invoked_le}
-use Rattle.hm_order.proofs.Growth.{want_invoked}
+use Rattle.hm_order.proofs.Positions.{invoke_found, invoked_le, want_invoked, invoked_later, want_later}
 use Rattle.hm_due_law.specs.Tidy.{HasWrite}
 use Rattle.hm_due_law.specs.Declared.{wanted, WasInvoked}
 use Rattle.hm_due_law.specs.Answers.{IsDueNow, IsFresh}
 
 -- ---- what an operation was invoked for
-
-pub invoked_later : {h h' : List Mark} (op : OpId) → IsPrefix h h' → invoked_at h op < length h → invoked_at h' op ≡ invoked_at h op
-invoked_later op f l = first_later (invokes op) f l
-
-pub want_later : {h h' : List Mark} (op : OpId) (want : Want) → IsPrefix h h' → want_of h op ≡ Some want → want_of h' op ≡ Some want
-want_later {h} {h'} op want f w =
-    let l : invoked_at h op < length h = want_invoked h op want w in
-    let i : (v : Want) × At h (invoked_at h op) (Invoke op v) = invoke_found h op l in
-    let there : slice_get h' (invoked_at h' op) ≡ Some (Invoke op i.0) = ap (λ (n : ℕ). slice_get h' n) (invoked_later op f l) ∙ prefix_at (invoked_at h op) (Invoke op i.0) f i.1 in
-    ap want_in there ∙ sym (ap want_in i.1) ∙ w
 
 -- an invoked operation asked before for what it asks for now
 want_before : {h h' : List Mark} (op : OpId) (want : Want) → IsPrefix h h' → invoked_at h op < length h → want_of h' op ≡ Some want → want_of h op ≡ Some want

@@ -20,7 +20,7 @@ use Rattle.hm_order.specs.declared.mark.Mark.TheVariants.{Commit}
 use Rattle.hm_order.specs.declared.mark.Want.TheVariants.{Read, Write}
 use Rattle.hm_order.specs.Marks.{At, invoked_at, want_of, op_of}
 use Rattle.hm_order.specs.Legal.{WritesAt}
-use Rattle.hm_order.proofs.Growth.{want_invoked}
+use Rattle.hm_order.proofs.Positions.{want_invoked}
 use Rattle.hm_due_law.specs.Tidy.{IsTidy, HasWrite}
 use Rattle.hm_due_law.specs.Declared.{wanted, WasInvoked, Records, LooksComeFirst, NoneAbove}
 use Rattle.hm_due_law.specs.Answers.{IsDueNow, IsFresh}

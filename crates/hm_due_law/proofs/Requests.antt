@@ -1,6 +1,6 @@
 -- A client's greatest request in a list, and which entries keep a list tidy.
 use Rattle.std.proofs.Common.{◌≡◌, ℕ, zero, suc, ◌+◌, ◌<◌, ◌≤◌, ◌⊎◌, Bool, true, false, cond, List, [], ◌∷◌, ◌++◌, Option, Some, None, refl, sym, ap, subst, ◌∙◌, arith, inl, inr}
-use Rattle.std.specs.Prelude.{nat_lt, nat_eq, ◌&&◌}
+use Rattle.std.specs.Prelude.{nat_lt, nat_eq, ◌==◌, if◌then◌else◌, ◌&&◌}
 use Rattle.std.proofs.lemmas.Bool.{cond_both, cond-true, cond-false, both_ways, and_parts, and_from, eq-eqb, eqb-true, ltb-true, false_from_ne_true}
 use Rattle.std.proofs.lemmas.Bool.Decides.{nat_tests}
 use Rattle.std.proofs.lemmas.Option.{none-some, same_Some}
@@ -138,3 +138,18 @@ admission_takes accepted log stamp client request t = by_switch (nat_eq accepted
     by_switch : (b : Bool) → nat_eq accepted stamp.switch ≡ b → (accepted ≡ stamp.switch) × (end_stamp log ≺ stamp) × (judge log client request ≡ verdict.New)
     by_switch true s = by_order (stamp_lt (end_stamp log) stamp) refl (eqb-true accepted stamp.switch s) (sym (cond-true (nat_eq accepted stamp.switch) (cond (stamp_lt (end_stamp log) stamp) (admitted (judge log client request)) (admit.Drop why.Order)) (admit.Drop why.OldSwitch) s) ∙ t)
     by_switch false s = absurd (let e : admit.Drop why.OldSwitch ≡ admit.Take = sym (cond-false (nat_eq accepted stamp.switch) (cond (stamp_lt (end_stamp log) stamp) (admitted (judge log client request)) (admit.Drop why.Order)) (admit.Drop why.OldSwitch) s) ∙ t in cc)
+
+-- a request that is found again stands at that place
+pub again_stands : (log : List Entry) (client request index : ℕ) → judge log client request ≡ verdict.Again index → (e : Entry) × At log index e × (e.client ≡ client) × (e.request ≡ request)
+again_stands log client request index = go (greatest_request log client) refl
+  where
+    go : (o : Option LatestRequest) → greatest_request log client ≡ o → judged o request ≡ verdict.Again index → (e : Entry) × At log index e × (e.client ≡ client) × (e.request ≡ request)
+    go None is a = absurd (cc)
+    go (Some known) is a =
+        let s : StandsAt log client known = greatest_stands log client known is in
+        cond_both (known.request == request) (verdict.Again known.index) (if nat_lt request known.request then verdict.Old else verdict.New) (λ (v : Verdict). v ≡ verdict.Again index → (e : Entry) × At log index e × (e.client ≡ client) × (e.request ≡ request))
+        (λ t b.
+        let place : known.index ≡ index = cc in
+        (s.entry, subst (λ (i : ℕ). At log i s.entry) place s.there, s.of_client, s.with_request ∙ eqb-true known.request request t))
+        (λ t b. absurd (cond_both (nat_lt request known.request) verdict.Old verdict.New (λ (v : Verdict). v ≡ verdict.Again index → ⊥) (λ u x. cc) (λ u x. cc) b))
+        a

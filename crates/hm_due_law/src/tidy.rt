@@ -1,36 +1,25 @@
-ghost use Rattle.std.specs.Prelude.{◌≡◌, ℕ, ◌<◌, ◌↔◌, true, false, List, [], ◌∷◌, ◌++◌, length};
+ghost use Rattle.std.specs.Prelude.{◌≡◌, ℕ, ◌<◌, ◌↔◌, true, List, length};
 ghost use Rattle.hm_base.specs.declared.entry.Entry.{Entry};
-ghost use Rattle.hm_base.specs.declared.verdict.Admit.TheVariants.{Take};
-ghost use Rattle.hm_base.specs.declared.verdict.Verdict.TheVariants.{New};
 ghost use Rattle.hm_base.specs.Lists.{IsPrefix};
 ghost use Rattle.hm_base.specs.Logs.{is_write, end_stamp};
 ghost use Rattle.hm_base.specs.Stamps.{◌≼◌};
-ghost use Rattle.hm_base.specs.Verdicts.{admission, judge};
 ghost use Rattle.hm_order.specs.Marks.{At, op_of};
 ghost use Rattle.hm_due_law.specs.Tidy.{IsTidy};
+ghost use Rattle.hm_due_law.specs.Laws.{PrefixIsTidy, AdmittedWriteKeepsTidy, LoggedReadKeepsTidy, RepeatedRequestStands};
 
 /// A prefix of a tidy list is tidy.
 pub fn prefix_is_tidy()
-    ensures { (front whole : List Entry) → IsPrefix front whole → IsTidy whole → IsTidy front }
+    ensures { PrefixIsTidy }
 {}
 
 /// A list stays tidy with each write that an entry node takes behind it.
 pub fn admitted_write_keeps_tidy()
-    ensures { (accepted : ℕ) (log : List Entry) (write : Entry)
-        → IsTidy log
-        → is_write write ≡ true
-        → admission accepted log write.stamp write.client write.request ≡ Take
-        → IsTidy (log ++ write ∷ []) }
+    ensures { AdmittedWriteKeepsTidy }
 {}
 
 /// A list stays tidy with each new logged read behind it that has the stamp at its end.
 pub fn logged_read_keeps_tidy()
-    ensures { (log : List Entry) (look : Entry)
-        → IsTidy log
-        → is_write look ≡ false
-        → look.stamp ≡ end_stamp log
-        → judge log look.client look.request ≡ New
-        → IsTidy (log ++ look ∷ []) }
+    ensures { LoggedReadKeepsTidy }
 {}
 
 /// A write of a tidy list lies within a prefix exactly where its stamp is at most the prefix's end.
@@ -63,4 +52,9 @@ pub fn stamp_stands_once()
         → is_write other ≡ true
         → one.stamp ≡ other.stamp
         → first ≡ second }
+{}
+
+/// A request that a log has as its client's greatest stands at the place that the verdict names.
+pub fn repeated_request_stands()
+    ensures { RepeatedRequestStands }
 {}

@@ -17,7 +17,7 @@ use Rattle.hm_base.proofs.ListLaws.{at_push, at_push_cases, at_last}
 use Rattle.hm_order.specs.Marks.{At, invokes, invoked_at, committed_at, replied_at, want_in, want_of}
 use Rattle.hm_order.specs.Legal.{IsWellFormed, WritesAt, IsSeen, IsDue, AllDue}
 use Rattle.hm_order.proofs.Lists.{at_within}
-use Rattle.hm_order.proofs.Positions.{invoke_found, invoked_le, committed_le, replied_le}
+use Rattle.hm_order.proofs.Positions.{invoke_found, want_invoked, invoked_le, committed_le, replied_le}
 
 -- ---- positions
 
@@ -30,12 +30,6 @@ first_push : {A : Type 0} (p : A → Bool) (xs : List A) (x : A) → position_or
 first_push p xs x l = position_or_len_push p xs x ∙ cond-false _ _ _ (ne_eqb _ _ (λ (same : position_or_len p xs ≡ length xs). omega arith))
 
 -- ---- what an op wants
-
-pub want_invoked : (h : List Mark) (op : OpId) (want : Want) → want_of h op ≡ Some want → invoked_at h op < length h
-want_invoked h op want e = elim (cases_lt (invoked_at h op) (length h)) [
-  | inl l ↦ l
-  | inr l ↦ absurd (none-some want (sym (ap want_in (slice_get_past h (invoked_at h op) l)) ∙ e))
-]
 
 pub invoked_push : (h : List Mark) (m : Mark) (op : OpId) → invoked_at h op < length h → invoked_at (h ++ m ∷ []) op ≡ invoked_at h op
 invoked_push h m op l = first_push (invokes op) h m l

@@ -1,14 +1,16 @@
 -- The marks at first places.
-use Rattle.std.proofs.Common.{◌≡◌, ℕ, ◌<◌, ◌≤◌, true, List, length, Some, refl, sym, ap, ◌∙◌, arith}
+use Rattle.std.proofs.Common.{◌≡◌, ℕ, ◌<◌, ◌≤◌, true, List, length, Some, refl, sym, ap, ◌∙◌, arith, inl, inr}
 use Rattle.std.specs.Prelude.{slice_get, nat_eq}
-use Rattle.std.proofs.lemmas.Bool.{and_parts, and_from, eqb-true, eq-eqb, false≢true}
+use Rattle.std.proofs.lemmas.Option.{none-some, slice_get_past}
+use Rattle.std.proofs.lemmas.Bool.{cases_lt, and_parts, and_from, eqb-true, eq-eqb, false≢true}
 use Rattle.hm_base.specs.declared.stamp.Stamp.{Stamp}
+use Rattle.hm_base.specs.Lists.{IsPrefix}
 use Rattle.hm_order.specs.declared.mark.Mark.{Mark}
 use Rattle.hm_order.specs.declared.mark.Mark.TheVariants.{Invoke, Commit, Reply}
 use Rattle.hm_base.specs.declared.operation.OpId.{OpId}
 use Rattle.hm_order.specs.declared.mark.Want.{Want}
 use Rattle.hm_base.specs.declared.operation.Answer.{Answer}
-use Rattle.hm_base.proofs.ListLaws.{first_at, first_le}
+use Rattle.hm_base.proofs.ListLaws.{first_at, first_le, first_later, prefix_at}
 use Rattle.hm_order.specs.Marks.{At, same_op, invokes, commits, replies, invoked_at, committed_at, replied_at, want_in, want_of, version_in, version_of}
 use Rattle.hm_order.specs.Legal.{IsWellFormed}
 use Rattle.hm_order.proofs.Lists.{at_within}
@@ -68,6 +70,24 @@ committed_le h i op stamp e = first_le (commits op) h i (Commit op stamp) e (sam
 
 pub replied_le : (h : List Mark) (i : ℕ) (op : OpId) (version : Stamp) (answer : Answer) → At h i (Reply op version answer) → replied_at h op ≤ i
 replied_le h i op version answer e = first_le (replies op) h i (Reply op version answer) e (same_op_self op)
+
+-- ---- what an op wants, and that it stays as the history grows
+
+pub want_invoked : (h : List Mark) (op : OpId) (want : Want) → want_of h op ≡ Some want → invoked_at h op < length h
+want_invoked h op want e = elim (cases_lt (invoked_at h op) (length h)) [
+  | inl l ↦ l
+  | inr l ↦ absurd (none-some want (sym (ap want_in (slice_get_past h (invoked_at h op) l)) ∙ e))
+]
+
+pub invoked_later : {h h' : List Mark} (op : OpId) → IsPrefix h h' → invoked_at h op < length h → invoked_at h' op ≡ invoked_at h op
+invoked_later op f l = first_later (invokes op) f l
+
+pub want_later : {h h' : List Mark} (op : OpId) (want : Want) → IsPrefix h h' → want_of h op ≡ Some want → want_of h' op ≡ Some want
+want_later {h} {h'} op want f w =
+    let l : invoked_at h op < length h = want_invoked h op want w in
+    let i : (v : Want) × At h (invoked_at h op) (Invoke op v) = invoke_found h op l in
+    let there : slice_get h' (invoked_at h' op) ≡ Some (Invoke op i.0) = ap (λ (n : ℕ). slice_get h' n) (invoked_later op f l) ∙ prefix_at (invoked_at h op) (Invoke op i.0) f i.1 in
+    ap want_in there ∙ sym (ap want_in i.1) ∙ w
 
 -- ---- in a history that is well formed
 

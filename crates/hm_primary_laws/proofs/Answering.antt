@@ -12,7 +12,7 @@ use Rattle.hm_base.specs.declared.why.Why.{Why}
 use Rattle.hm_base.specs.declared.why.Why.TheVariants as why
 use Rattle.hm_base.specs.Lists.{IsPrefix}
 use Rattle.hm_base.specs.Logs.{is_write, writes, latest, read_ahead}
-use Rattle.hm_base.proofs.ListLaws.{prefix_same, prefix_then, prefix_take, prefix_both, prefix_is_take, prefix-length, prefix_at, prefix_at_back, set_still}
+use Rattle.hm_base.proofs.ListLaws.{prefix_same, prefix_then, prefix_take, prefix_both, prefix_is_take, prefix-length, prefix_at, prefix_at_back, set_still, last_stands, filter_at}
 use Rattle.hm_packet.specs.declared.acted.Did.TheVariants as did
 use Rattle.hm_packet.specs.declared.body.Body.TheVariants as body
 use Rattle.hm_packet.specs.declared.body.FastRead.{FastRead}
@@ -22,9 +22,7 @@ use Rattle.hm_packet.specs.declared.body.Refuse.{Refuse}
 use Rattle.hm_packet.specs.Messages.{Message}
 use Rattle.hm_order.specs.declared.mark.Want.TheVariants as want
 use Rattle.hm_order.specs.Marks.{At}
-use Rattle.hm_order.proofs.Growth.{want_invoked}
 use Rattle.hm_due_law.specs.Answers.{IsDueNow, IsFresh}
-use Rattle.hm_due_law.proofs.ReadAnswers.{whole_due, ahead_due}
 use Rattle.hm_rules.specs.Senders.{replica_sends}
 use Rattle.hm_rules.specs.Replica.{Replica, len, applied, first_member, others, acked_by}
 use Rattle.hm_rules.specs.ReplicaSteps.{Stepped, ignored, sends, to, done_of, read_reply, page_to, known_or_page, last_of, done_if_any, last_done, answers_again, done_again, as_normal, stamped_read, last_number, on_refuse}
@@ -32,24 +30,11 @@ use Rattle.hm_rules.specs.PrimaryBackup.{is_primary, is_settled, primary_normal_
 use Rattle.hm_rules.specs.World.{World}
 use Rattle.hm_core_laws.specs.Packets.{op, WasAsked, Holds}
 use Rattle.hm_core_laws.specs.Core.{ReplicaHolds}
-use Rattle.hm_core_laws.proofs.ListSteps.{last_stands}
 use Rattle.hm_view_laws.specs.Leads.{Lead}
 use Rattle.hm_primary_laws.specs.Led.{BackupHolds, RoleHolds, MemberHolds, CommitHolds, Fits, GroupHolds, SettledHolds}
 use Rattle.hm_primary_laws.proofs.Grows.{grew_same}
 use Rattle.hm_primary_laws.proofs.Parts.{Acts, Says, AllSaid, MemberStep, Becomes, says_none, says_one, says_both, says_each, says_now, commit_is, page_said, changed, silently}
-
--- an entry of the writes of a list is an entry of the list, and a write
-written : (log : List Entry) (i : ℕ) (e : Entry) → At (writes log) i e → ((j : ℕ) × At log j e) × (is_write e ≡ true)
-written [] i e a = absurd (none-some e a)
-written (x ∷ xs) i e a = cond_both (is_write x) (x ∷ writes xs) (writes xs) (λ (l : List Entry). At l i e → ((j : ℕ) × At (x ∷ xs) j e) × (is_write e ≡ true))
-    (λ t b. first x xs e (λ k c. behind x xs e (written xs k e c)) i t b) (λ t b. behind x xs e (written xs i e b)) a
-  where
-    behind : (x : Entry) (xs : List Entry) (e : Entry) → ((j : ℕ) × At xs j e) × (is_write e ≡ true) → ((j : ℕ) × At (x ∷ xs) j e) × (is_write e ≡ true)
-    behind x xs e w = ((suc w.0.0, w.0.1), w.1)
-
-    first : (x : Entry) (xs : List Entry) (e : Entry) → ((k : ℕ) → At (writes xs) k e → ((j : ℕ) × At (x ∷ xs) j e) × (is_write e ≡ true)) → (i : ℕ) → is_write x ≡ true → At (x ∷ writes xs) i e → ((j : ℕ) × At (x ∷ xs) j e) × (is_write e ≡ true)
-    first x xs e later zero t b = ((0, b), sym (ap is_write (same_Some x e b)) ∙ t)
-    first x xs e later (suc i) t b = later i b
+use Rattle.hm_order.proofs.Positions.{want_invoked}
 
 -- ---- more is known
 
@@ -138,7 +123,7 @@ module _ (w : World) (n : ℕ) (r : Replica) (a : Acts w n r) where
   says outs x = silently w n r a r unchanged outs settled_now x
 
   now : (m : Message) → IsTrue (replica_sends m.body) → Holds w.history w.declared w.net m → Fits a.primary.epochs a.primary.leads w.declared m → Said (m ∷ [])
-  now m t x fits = says_one w a.primary.epochs a.primary.leads w.declared m (says_now w a.primary.epochs a.primary.leads w.declared a.core m t x fits)
+  now m t x fits = says_one w a.primary.epochs a.primary.leads w.declared m (says_now w a.primary.epochs a.primary.leads w.declared a.laws a.core m t x fits)
 
   -- ---- completions
 
@@ -159,8 +144,8 @@ module _ (w : World) (n : ℕ) (r : Replica) (a : Acts w n r) where
   last_said None e = says_none w a.primary.epochs a.primary.leads w.declared
   last_said (Some x) e =
       let there : (i : ℕ) × At (writes (applied r)) i x = last_stands (writes (applied r)) x e in
-      let found : ((j : ℕ) × At (applied r) j x) × (is_write x ≡ true) = written (applied r) there.0 x there.1 in
-      completes found.0.0 x found.0.1 found.1
+      let found : (j : ℕ) × At (applied r) j x × (is_write x ≡ true) = filter_at is_write (applied r) there.0 x there.1 in
+      completes found.0 x found.1 found.2
 
   -- ---- reads
 
@@ -173,7 +158,7 @@ module _ (w : World) (n : ℕ) (r : Replica) (a : Acts w n r) where
       let reply : Message = read_reply r read.client read.request (latest (applied r) read.object) in
       says (reply ∷ []) (now reply refl (record {
         invoked = want_invoked w.history (op read.client read.request) (want.Read read.object) was;
-        due = subst (λ (l : List Entry). IsDueNow w.history (op read.client read.request) (latest l read.object)) (sym (whole t s)) (whole_due w.history w.declared (op read.client read.request) read.object a.core.agree.records was);
+        due = subst (λ (l : List Entry). IsDueNow w.history (op read.client read.request) (latest l read.object)) (sym (whole t s)) (a.laws.whole w.history w.declared (op read.client read.request) read.object a.core.agree.records was);
       }) tt)
 
   pub normal_read_row : (read : NormalRead) → WasAsked w.history read.client read.request (want.Read read.object) → Fine (primary_normal_read r read)
@@ -188,7 +173,7 @@ module _ (w : World) (n : ℕ) (r : Replica) (a : Acts w n r) where
       let reply : Message = read_reply r read.client read.request found in
       says (reply ∷ []) (now reply refl (record {
         invoked = want_invoked w.history (op read.client read.request) (want.Read read.object) fresh.read;
-        due = ahead_due w.history w.declared r.log (op read.client read.request) read.object r.accepted read.stamp found a.core.agree.records fresh.read fresh.point (a.primary.group.prefix n r a.there a.live) lists.log.tidy e;
+        due = a.laws.ahead w.history w.declared r.log (op read.client read.request) read.object r.accepted read.stamp found a.core.agree.records fresh.read fresh.point (a.primary.group.prefix n r a.there a.live) lists.log.tidy e;
       }) tt)
   stamped read None e fresh =
       let passed : Message = to r (node.Replica (first_member r)) (body.NormalRead (as_normal read)) in
@@ -242,8 +227,8 @@ module _ (w : World) (n : ℕ) (r : Replica) (a : Acts w n r) where
   known_or_page_said t other =
       let told : Message = to r (node.Replica other) (body.Known (record { view = r.view; len = r.known })) in
       cond_both (acked_by r other == len r) told (page_to r r.start r.known other) (Says w a.primary.epochs a.primary.leads w.declared)
-      (λ e. says_now w a.primary.epochs a.primary.leads w.declared a.core told refl tt (commit_is r mine t))
-      (λ e. page_said w r mine t lists.log other)
+      (λ e. says_now w a.primary.epochs a.primary.leads w.declared a.laws a.core told refl tt (commit_is r mine t))
+      (λ e. page_said a.laws w r mine t lists.log other)
 
   pub ticks : MemberStep w n r a (primary_tick r)
   ticks = cond_both (is_primary r) (sends r (map (known_or_page r) (others r) ++ last_done r)) (sends r []) (MemberStep w n r a)

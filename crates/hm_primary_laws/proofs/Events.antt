@@ -27,8 +27,8 @@ use Rattle.hm_core_laws.specs.Packets.{Holds}
 use Rattle.hm_core_laws.specs.Core.{Core}
 use Rattle.hm_core_laws.specs.Changes.{is_quiet, Origin, IsStep, IsQuiet, Change}
 use Rattle.hm_core_laws.specs.Owed.{declared_by}
-use Rattle.hm_core_laws.proofs.EpochSteps.{fewer_members, epochs_quiet, epochs_stepped, epochs_removed, epoch_now}
-use Rattle.hm_core_laws.proofs.HoldsLater.{list_later}
+use Rattle.hm_core_laws.specs.Epochs.{EpochsHold}
+use Rattle.hm_primary_laws.proofs.Laws.{StepLaws, EventLaws}
 use Rattle.hm_core_laws.proofs.Members.{absent_before}
 use Rattle.hm_view_laws.specs.Leads.{Lead}
 use Rattle.hm_primary_laws.specs.Led.{MemberHolds, Fits, IsLivePrimary, GroupHolds, SettledHolds, PrimaryHolds}
@@ -64,16 +64,16 @@ module _ {epochs epochs' : List (List ℕ)} {stopped stopped' : List ℕ} {repli
       member_epochs : (n : ℕ) (r : Replica) → MemberHolds epochs leads declared n r → MemberHolds epochs' leads declared n r
       member_epochs n r h = record { me = h.me; epoch = prefix_at r.view r.members longer h.epoch; known = h.known; applied = h.applied; role = h.role; own = h.own; lower = h.lower }
 
-module _ (w : World) (core : Core w) (primary : PrimaryHolds w) where
+module _ (laws : StepLaws) (w : World) (core : Core w) (primary : PrimaryHolds w) where
   -- ---- an event in which no replica takes a step
 
-  after_quiet : (new : World) → IsQuiet w new → PrimaryHolds new
-  after_quiet new q = record {
+  after_quiet : EventLaws → (new : World) → IsQuiet w new → PrimaryHolds new
+  after_quiet events new q = record {
     kind = ap (λ (s : Setup). s.kind) q.setup ∙ primary.kind;
     epochs = primary.epochs;
-    groups = epochs_quiet w primary.epochs primary.groups new q;
+    groups = events.quiet w new primary.epochs primary.groups q;
     leads = primary.leads;
-    logs = λ e t. list_later q.history (prefix_same w.declared) net-grew core.agree.formed (primary.leads e).log (primary.logs e t);
+    logs = λ e t. events.lists w.history new.history w.net new.net (primary.leads e).log q.history net-grew (primary.logs e t);
     packets = subst (λ (k : List Entry). All (Fits primary.epochs primary.leads k) new.net) (sym q.declared) (subst (All (Fits primary.epochs primary.leads w.declared)) (sym q.net)
         (All-append (Fits primary.epochs primary.leads w.declared) w.net q.sent primary.packets
         (All-weaker (λ (m : Message). IsTrue (is_quiet m.body)) (Fits primary.epochs primary.leads w.declared) (λ m t. quiet_fits primary.epochs primary.leads w.declared (number m.src) m.body t) q.sent q.kinds)));
@@ -91,9 +91,9 @@ module _ (w : World) (core : Core w) (primary : PrimaryHolds w) where
 
   -- ---- a stopped member is removed
 
-  module _ (n : ℕ) (stopped : is_stopped w n ≡ true) where
+  module _ (events : EventLaws) (n : ℕ) (stopped : is_stopped w n ≡ true) where
     abbrev members : List ℕ
-    members = fewer_members w primary.epochs primary.groups n stopped
+    members = (removes w.service n).service.members
 
     abbrev epochs : List (List ℕ)
     epochs = primary.epochs ++ members ∷ []
@@ -107,16 +107,19 @@ module _ (w : World) (core : Core w) (primary : PrimaryHolds w) where
     longer : IsPrefix primary.epochs epochs
     longer = prefix_append primary.epochs (members ∷ [])
 
+    groups : EpochsHold (serviced w (removes w.service n)).world epochs
+    groups = events.removal w primary.epochs n primary.groups stopped
+
     after_removal : PrimaryHolds (serviced w (removes w.service n)).world
     after_removal = record {
       kind = primary.kind;
       epochs = epochs;
-      groups = epochs_removed w primary.epochs primary.groups n stopped;
+      groups = groups;
       leads = primary.leads;
-      logs = λ e t. list_later (prefix_same w.history) (prefix_same w.declared) (prefix_append w.net outs) core.agree.formed (primary.leads e).log (primary.logs e t);
+      logs = λ e t. events.lists w.history w.history w.net (w.net ++ outs) (primary.leads e).log (prefix_same w.history) (prefix_append w.net outs) (primary.logs e t);
       packets = All-append (Fits epochs primary.leads w.declared) w.net outs (all_fit_later longer (grew_same primary.leads) (prefix_same w.declared) w.net primary.packets)
           (All-append (Fits epochs primary.leads w.declared) (map (config_to (removes w.service n).service) members) (told ∷ [])
-          (All-map (Fits epochs primary.leads w.declared) (config_to (removes w.service n).service) members (λ k d l. epoch_now w primary.epochs primary.groups n stopped))
+          (All-map (Fits epochs primary.leads w.declared) (config_to (removes w.service n).service) members (λ k d l. groups.service))
           (All-cons (Fits epochs primary.leads w.declared) told [] tt (All-nil (Fits epochs primary.leads w.declared))));
       group = group_later longer (λ i live. live) primary.group;
       settled = primary.settled;
@@ -125,7 +128,7 @@ module _ (w : World) (core : Core w) (primary : PrimaryHolds w) where
   -- ---- a step
 
   abbrev pub acting : (n : ℕ) (s : Stepped) (x : IsStep w n s) → Acts w n x.replica
-  acting n s x = record { core = core; primary = primary; there = x.there; live = x.live }
+  acting n s x = record { laws = laws; core = core; primary = primary; there = x.there; live = x.live }
 
   arrived : (n : ℕ) (r : Replica) (a : Acts w n r) (m : Message) → IsIn m w.net → Fits a.primary.epochs a.primary.leads w.declared m → (k : GroupKind) → k ≡ Primary → (replica_step k r m).did ≡ did.Done → MemberStep w n r a (replica_step k r m)
   arrived n r a m i fits k e = subst (λ (k : GroupKind). (replica_step k r m).did ≡ did.Done → MemberStep w n r a (replica_step k r m)) (sym e)
@@ -148,13 +151,13 @@ module _ (w : World) (core : Core w) (primary : PrimaryHolds w) where
   applied_then n s x = ((member_step n s x).group.members n s.replica (set_same w.replicas n s.replica x.replica x.there)).applied
 
   module _ (n : ℕ) (s : Stepped) (x : IsStep w n s) (given : MemberStep w n x.replica (acting n s x) s) where
-    pub after_step : (cursor : ℕ) → PrimaryHolds (record (stepped w n s) { cursor = cursor })
-    after_step cursor = record {
+    pub after_step : EventLaws → (cursor : ℕ) → PrimaryHolds (record (stepped w n s) { cursor = cursor })
+    after_step events cursor = record {
       kind = primary.kind;
       epochs = primary.epochs;
-      groups = epochs_stepped w primary.epochs primary.groups n s x.replica x.there cursor;
+      groups = events.step w primary.epochs n x.replica s cursor primary.groups x.there;
       leads = given.leads;
-      logs = λ e t. list_later (prefix_append w.history (commits_since w.declared (declared_by w s))) given.longer (prefix_append w.net s.outs) core.agree.formed (given.leads e).log (given.logs e t);
+      logs = λ e t. events.lists w.history (w.history ++ commits_since w.declared (declared_by w s)) w.net (w.net ++ s.outs) (given.leads e).log (prefix_append w.history (commits_since w.declared (declared_by w s))) (prefix_append w.net s.outs) (given.logs e t);
       packets = All-append (Fits primary.epochs given.leads (declared_by w s)) w.net s.outs (all_fit_later (prefix_same primary.epochs) given.grew given.longer w.net primary.packets) given.said.fits;
       group = given.group;
       settled = given.settled;
@@ -162,7 +165,7 @@ module _ (w : World) (core : Core w) (primary : PrimaryHolds w) where
 
   -- ---- any event
 
-  pub primary_after : (new : World) → Change w new → PrimaryHolds new
-  primary_after new (Change.Quiet q) = after_quiet new q
-  primary_after new (Change.Step n s x e) = subst PrimaryHolds (sym e) (after_step n s x (member_step n s x) new.cursor)
-  primary_after new (Change.Removal n x) = subst PrimaryHolds (sym x.after) (after_removal n x.stopped)
+  pub primary_after : EventLaws → (new : World) → Change w new → PrimaryHolds new
+  primary_after events new (Change.Quiet q) = after_quiet events new q
+  primary_after events new (Change.Step n s x e) = subst PrimaryHolds (sym e) (after_step n s x (member_step n s x) events new.cursor)
+  primary_after events new (Change.Removal n x) = subst PrimaryHolds (sym x.after) (after_removal events n x.stopped)

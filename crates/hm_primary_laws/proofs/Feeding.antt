@@ -11,7 +11,6 @@ use Rattle.hm_base.specs.Taking.{Took, Taken, held, extended, grown, take_page}
 use Rattle.hm_base.proofs.ListLaws.{prefix_same, prefix_append, prefix_then, prefix_take, prefix-length, prefix-take, prefix_is_take, taken_page, All-prefix}
 use Rattle.hm_packet.specs.declared.acted.Did.TheVariants as did
 use Rattle.hm_packet.specs.declared.body.Feed.{Feed}
-use Rattle.hm_due_law.proofs.Tidies.{tidy_prefix}
 use Rattle.hm_rules.specs.Replica.{Replica, len, applied, first_member}
 use Rattle.hm_rules.specs.ReplicaSteps.{Stepped, ignored, log_full, sends, ack_to, learns, on_took}
 use Rattle.hm_rules.specs.PrimaryBackup.{is_primary, primary_taken, primary_feed}
@@ -27,9 +26,6 @@ use Rattle.hm_primary_laws.proofs.Grows.{commit_later}
 use Rattle.hm_primary_laws.proofs.Changes.{taken_beside, took}
 use Rattle.hm_primary_laws.proofs.Parts.{Acts, MemberStep, Becomes, epochs_of, says_one, says_now, changed, member_now, silently}
 use Rattle.hm_primary_laws.proofs.Answering.{Fine, ignores, mine, unchanged, knows_mine}
-
-pub list_front : (w : World) {xs ys : List Entry} → IsPrefix xs ys → ListHolds w.history w.net ys → ListHolds w.history w.net xs
-list_front w p l = record { sourced = All-prefix (IsSourced w.history w.net) p l.sourced; tidy = tidy_prefix p l.tidy }
 
 module _ (w : World) (n : ℕ) (r : Replica) (a : Acts w n r) where
   abbrev FineStep : Stepped → Type 0
@@ -72,7 +68,7 @@ module _ (w : World) (n : ℕ) (r : Replica) (a : Acts w n r) where
       taker = record r { log = es; staged = None }
 
       list : ListHolds w.history w.net es
-      list = list_front w begins (a.primary.logs r.view begun)
+      list = a.laws.front w.history w.net _ _ begins (a.primary.logs r.view begun)
 
       taking : Becomes w n r a taker leads_then
       taking = record {
@@ -80,7 +76,7 @@ module _ (w : World) (n : ℕ) (r : Replica) (a : Acts w n r) where
         group = took a.primary.epochs w.stopped w.replicas a.primary.leads w.declared o a.primary.group n r a.there a.live f es begun from-start begins known still grows prefix;
         logs = each_put (λ (e : ℕ) (y : Lead). y.begun ≡ true → ListHolds w.history w.net y.log) a.primary.leads r.view held_lead (λ b. a.primary.logs r.view begun) (λ e ne b. a.primary.logs e b);
         log = list;
-        staged = list_front w (record { rest = es; parts = refl }) list;
+        staged = a.laws.front w.history w.net _ _ (record { rest = es; parts = refl }) list;
       }
 
       abbrev learner : Replica
@@ -98,7 +94,7 @@ module _ (w : World) (n : ℕ) (r : Replica) (a : Acts w n r) where
           let now : (leads_then r.view).held n ≡ suc (length es) = learner_mine.own refl in
           let held-me : (leads_then r.view).held r.me ≡ suc (length es) = ap (λ (q : ℕ). (leads_then r.view).held q) own.me ∙ now in
           silently w n r a learner b (ack_to learner from ∷ []) (λ t. absurd (false≢true (sym f ∙ t)))
-          (says_one w a.primary.epochs leads_then w.declared (ack_to learner from) (says_now w a.primary.epochs leads_then w.declared a.core (ack_to learner from) refl tt (record {
+          (says_one w a.primary.epochs leads_then w.declared (ack_to learner from) (says_now w a.primary.epochs leads_then w.declared a.laws a.core (ack_to learner from) refl tt (record {
             begun = taking.grew.begun r.view begun;
             held = λ le. omega arith;
           })))
@@ -177,11 +173,11 @@ module _ (w : World) (n : ℕ) (r : Replica) (a : Acts w n r) where
 
       stages_row : length longer_staged < feed.start → MemberStep w n r a (sends stager (ack_to stager from ∷ []))
       stages_row short =
-          let list : ListHolds w.history w.net longer_staged = list_front w begins_staged (a.primary.logs r.view begun) in
+          let list : ListHolds w.history w.net longer_staged = a.laws.front w.history w.net _ _ begins_staged (a.primary.logs r.view begun) in
           silently w n r a stager (changed w n r a r (unchanged w n r a) stager refl (omega arith) (λ t. absurd (false≢true (sym f ∙ t)))
           (λ e p. elim p [ inl below ↦ inl below | inr here ↦ absurd (none-some base (sym here.1 ∙ u)) ]) list stager_mine)
           (ack_to stager from ∷ []) (λ t. absurd (false≢true (sym f ∙ t)))
-          (says_one w a.primary.epochs a.primary.leads w.declared (ack_to stager from) (says_now w a.primary.epochs a.primary.leads w.declared a.core (ack_to stager from) refl tt (record {
+          (says_one w a.primary.epochs a.primary.leads w.declared (ack_to stager from) (says_now w a.primary.epochs a.primary.leads w.declared a.laws a.core (ack_to stager from) refl tt (record {
             begun = begun;
             held = λ le. absurd (let s : feed.start ≡ (a.primary.leads r.view).start = start in omega arith);
           })))

@@ -1,3 +1,4 @@
+mod Laws
 pub mod Firsts
 pub mod Grows
 pub mod Moves

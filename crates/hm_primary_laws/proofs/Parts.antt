@@ -26,9 +26,6 @@ use Rattle.hm_core_laws.specs.Core.{ListHolds, Core}
 use Rattle.hm_core_laws.specs.Epochs.{EpochsHold}
 use Rattle.hm_core_laws.specs.Owed.{declared_by}
 use Rattle.hm_core_laws.specs.Later.{StaysTrue}
-use Rattle.hm_core_laws.proofs.Sources.{all_sourced_later}
-use Rattle.hm_core_laws.proofs.HoldsLater.{all_hold_later}
-use Rattle.hm_core_laws.proofs.StepParts.{nothing_declared, answers_hold, answers_sent}
 use Rattle.hm_view_laws.specs.Leads.{Lead}
 use Rattle.hm_primary_laws.specs.Led.{LeadsHold, MemberHolds, CommitHolds, Fits, IsPast, IsLivePrimary, GroupHolds, SettledHolds, PrimaryHolds}
 use Rattle.hm_primary_laws.proofs.Firsts.{EpochsOf, epochs_set, one_primary}
@@ -36,12 +33,15 @@ use Rattle.hm_primary_laws.proofs.Grows.{Grew}
 use Rattle.hm_primary_laws.proofs.Moves.{each_set, leads_of}
 use Rattle.hm_primary_laws.proofs.Changes.{same_log}
 use Rattle.hm_primary_laws.proofs.Commits.{Unsettles, declared_longer, commits_group, commits_settled, rests_settled}
+use Rattle.hm_view_laws.proofs.Ends.{nothing_declared}
+use Rattle.hm_primary_laws.proofs.Laws.{StepLaws}
 
 pub epochs_of : {w : World} {epochs : List (List ℕ)} → EpochsHold w epochs → EpochsOf epochs w.stopped w.replicas
 epochs_of g = record { rise = g.rise; fewer = g.fewer; live = g.live }
 
 -- a live replica of a sound group
 pub record Acts (w : World) (n : ℕ) (r : Replica) : Type 0 where
+  pub laws : StepLaws
   pub core : Core w
   pub primary : PrimaryHolds w
   pub there : At w.replicas n r
@@ -84,10 +84,10 @@ module _ (w : World) (epochs : List (List ℕ)) (leads : ℕ → Lead) (declared
   says_each f (x ∷ xs) h = says_more (f x) (map f xs) (h x) (says_each f xs h)
 
   -- what holds now stays true
-  pub says_now : Core w → (m : Message) → IsTrue (replica_sends m.body) → Holds w.history w.declared w.net m → Fits epochs leads declared m → Says w epochs leads declared m
-  says_now core m t x fits = record {
+  pub says_now : StepLaws → Core w → (m : Message) → IsTrue (replica_sends m.body) → Holds w.history w.declared w.net m → Fits epochs leads declared m → Says w epochs leads declared m
+  says_now laws core m t x fits = record {
     sender = t;
-    stays = λ h k net later front. (all_hold_later later.marks later.entries later.packets core.agree.formed (m ∷ []) (All-cons (Holds w.history w.declared w.net) m [] x (All-nil (Holds w.history w.declared w.net)))) 0 m (omega arith);
+    stays = λ h k net later front. laws.stays w.history h w.declared k w.net net m later.marks later.entries later.packets core.agree.formed x;
     fits = fits;
   }
 
@@ -102,12 +102,12 @@ commit_is {epochs} {leads} {declared} r h t =
     }
 
 -- a page of a primary's log
-pub page_said : (w : World) {epochs : List (List ℕ)} {leads : ℕ → Lead} {declared : List Entry} {n : ℕ} (r : Replica) → MemberHolds epochs leads declared n r → is_primary r ≡ true → ListHolds w.history w.net r.log → (other : ℕ) → Says w epochs leads declared (page_to r r.start r.known other)
-page_said w {epochs} {leads} {declared} r h t list other =
+pub page_said : StepLaws → (w : World) {epochs : List (List ℕ)} {leads : ℕ → Lead} {declared : List Entry} {n : ℕ} (r : Replica) → MemberHolds epochs leads declared n r → is_primary r ≡ true → ListHolds w.history w.net r.log → (other : ℕ) → Says w epochs leads declared (page_to r r.start r.known other)
+page_said laws w {epochs} {leads} {declared} r h t list other =
     let x : LeadsHold leads r = leads_of h t in
     record {
       sender = refl;
-      stays = λ hist k net later front. all_sourced_later (page r.log (acked_by r other)) later.marks later.packets
+      stays = λ hist k net later front. laws.sourced w.history hist w.net net (page r.log (acked_by r other)) later.marks later.packets
           (All-take (IsSourced w.history w.net) max_page_len (drop (acked_by r other) r.log) (All-drop (IsSourced w.history w.net) (acked_by r other) r.log list.sourced));
       fits = record {
         starts = x.start;
@@ -211,8 +211,8 @@ module _ (w : World) (n : ℕ) (r : Replica) (a : Acts w n r) where
         where
           answered : (k : List Entry) (last : Replica) (m : ℕ) → IsPrefix (take m last.log) k → AllSaid w a.primary.epochs leads k (answers (record last { known = m }) new.known m)
           answered k last m p = record {
-            senders = answers_sent last new.known m;
-            stays = λ i d l h k' net later front. answers_hold h k' net last new.known m later.agree (prefix_then p front) i d l;
+            senders = a.laws.answers_sent last new.known m;
+            stays = λ i d l h k' net later front. a.laws.answers_true h k' net last new.known m later.agree (prefix_then p front) i d l;
             fits = All-map (Fits a.primary.epochs leads k) (answer_entry (record last { known = m })) (drop (max new.known (m - max_answered)) (take m last.log))
                 (each_from_at (λ (e : Entry). Fits a.primary.epochs leads k (answer_entry (record last { known = m }) e)) (drop (max new.known (m - max_answered)) (take m last.log)) (λ i e at. entry_fits e e.act));
           }
@@ -227,4 +227,4 @@ module _ (w : World) (n : ℕ) (r : Replica) (a : Acts w n r) where
 
     -- the pages of a primary to all others
     pub paging : (declared : List Entry) (s : Replica) → MemberHolds a.primary.epochs leads declared n s → is_primary s ≡ true → ListHolds w.history w.net s.log → AllSaid w a.primary.epochs leads declared (pages s)
-    paging declared s h t list = says_each w a.primary.epochs leads declared (page_to s s.start s.known) (others s) (page_said w s h t list)
+    paging declared s h t list = says_each w a.primary.epochs leads declared (page_to s s.start s.known) (others s) (page_said a.laws w s h t list)

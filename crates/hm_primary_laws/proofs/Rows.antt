@@ -25,7 +25,7 @@ use Rattle.hm_packet.specs.declared.body.FeedAck.{FeedAck}
 use Rattle.hm_packet.specs.declared.body.Config.{Config}
 use Rattle.hm_packet.specs.Messages.{Message}
 use Rattle.hm_order.specs.Marks.{At}
-use Rattle.hm_due_law.proofs.Requests.{admission_takes, tidy_write_push}
+use Rattle.hm_due_law.specs.Tidy.{IsTidy}
 use Rattle.hm_rules.specs.Senders.{same_node, number}
 use Rattle.hm_rules.specs.Replica.{Replica, len, applied, others, acked_by, first_member, with_acked, none_acked}
 use Rattle.hm_rules.specs.ReplicaSteps.{Stepped, ignored, log_full, sends, and_sends, page_to, pages, appends, entry_of, admits, takes_put, done_again, is_foreign}
@@ -44,7 +44,7 @@ use Rattle.hm_primary_laws.proofs.Changes.{past_below, appended_beside, appended
 use Rattle.hm_primary_laws.proofs.Counting.{all_true, settled_from}
 use Rattle.hm_primary_laws.proofs.Commits.{Unsettles, unsettles}
 use Rattle.hm_primary_laws.proofs.Parts.{Acts, AllSaid, MemberStep, Becomes, epochs_of, says_none, says_one, page_said, changed, silently, growing, paging}
-use Rattle.hm_primary_laws.proofs.Feeding.{list_front, feed_row}
+use Rattle.hm_primary_laws.proofs.Feeding.{feed_row}
 use Rattle.hm_primary_laws.proofs.Answering.{Fine, ignores, mine, lists, unchanged, settled_now, again, normal_read_row, stamped, known_row, refuse_row}
 
 -- what stands in a list of numbers with one replaced
@@ -77,13 +77,13 @@ module _ (w : World) (n : ℕ) (r : Replica) (a : Acts w n r) where
     abbrev next_lead : Lead
     next_lead = with_log (a.primary.leads r.view) n next_log
 
-    written_row : end_stamp r.log ≺ write.stamp → judge r.log write.client write.request ≡ verdict.New → FineStep (appends primary_grew r (entry_of write))
-    written_row above new =
+    written_row : IsTidy next_log → FineStep (appends primary_grew r (entry_of write))
+    written_row tidy =
         let after : Replica = record r { log = next_log } in
         let p : IsPrefix r.log next_log = prefix_append r.log (entry_of write ∷ []) in
         let list : ListHolds w.history w.net next_log = record {
           sourced = All-push (IsSourced w.history w.net) r.log (entry_of write) (lists w n r a).log.sourced source;
-          tidy = tidy_write_push r.log (entry_of write) (lists w n r a).log.tidy refl above new;
+          tidy = tidy;
         } in
         let becomes : Becomes w n r a after (put a.primary.leads r.view next_lead) = record {
           grew = (appended_beside a.primary.epochs w.stopped w.replicas a.primary.leads w.declared o a.primary.group n r a.there a.live t next_log p).grew;
@@ -99,9 +99,7 @@ module _ (w : World) (n : ℕ) (r : Replica) (a : Acts w n r) where
     admitting : (x : Admit) → admission r.accepted r.log write.stamp write.client write.request ≡ x → FineStep (admits primary_grew done_again r write x)
     admitting (admit.Drop reason) e = ignores w n r a reason
     admitting (admit.Again index) e = again w n r a index (slice_get r.log index) refl
-    admitting admit.Take e =
-        let t : (r.accepted ≡ write.stamp.switch) × (end_stamp r.log ≺ write.stamp) × (judge r.log write.client write.request ≡ verdict.New) = admission_takes r.accepted r.log write.stamp write.client write.request e in
-        written_row t.1 t.2
+    admitting admit.Take e = written_row (a.laws.write_tidy r.accepted r.log (entry_of write) (lists w n r a).log.tidy refl e)
 
   put_row : (write : Put) → IsSourced w.history w.net (entry_of write) → FineStep (primary_put r write)
   put_row write source = cond_both (is_primary r) (takes_put primary_grew done_again r write) (ignored r why.Status) FineStep
@@ -169,7 +167,7 @@ module _ (w : World) (n : ℕ) (r : Replica) (a : Acts w n r) where
 
     behind_said : (declared : List Entry) (s : Replica) → MemberHolds a.primary.epochs a.primary.leads declared n s → is_primary s ≡ true → ListHolds w.history w.net s.log → AllSaid w a.primary.epochs a.primary.leads declared (page_if_behind ack.len from s)
     behind_said declared s h p list = cond_both (nat_lt ack.len (len s)) (page_to s s.start s.known from ∷ []) [] (AllSaid w a.primary.epochs a.primary.leads declared)
-        (λ l. says_one w a.primary.epochs a.primary.leads declared (page_to s s.start s.known from) (page_said w s h p list from)) (λ l. says_none w a.primary.epochs a.primary.leads declared)
+        (λ l. says_one w a.primary.epochs a.primary.leads declared (page_to s s.start s.known from) (page_said a.laws w s h p list from)) (λ l. says_none w a.primary.epochs a.primary.leads declared)
 
     acked_row : MemberStep w n r a (and_sends (primary_commits noter) (page_if_behind ack.len from))
     acked_row = growing w n r a noter noting t noter_unsettles (page_if_behind ack.len from) behind_said
@@ -195,7 +193,7 @@ module _ (w : World) (n : ℕ) (r : Replica) (a : Acts w n r) where
     begun_lead = with_begun (a.primary.leads config.view) n r.log
 
     none_staged : ListHolds w.history w.net []
-    none_staged = list_front w (record { rest = r.log; parts = refl }) (lists w n r a).log
+    none_staged = a.laws.front w.history w.net _ _ (record { rest = r.log; parts = refl }) (lists w n r a).log
 
     leads_row : is_primary leader ≡ true → MemberStep w n r a (primary_grew leader)
     leads_row t =
@@ -236,7 +234,7 @@ module _ (w : World) (n : ℕ) (r : Replica) (a : Acts w n r) where
 
     follows_row : is_primary follower ≡ false → MemberStep w n r a (sends follower [])
     follows_row f = silently w n r a follower (changed w n r a r (unchanged w n r a) follower refl (omega arith) (λ t. absurd (false≢true (sym f ∙ t))) follower_past
-        (list_front w (prefix_take r.known r.log) (lists w n r a).log) (follower_mine f)) [] (λ t. absurd (false≢true (sym f ∙ t))) (says_none w a.primary.epochs a.primary.leads w.declared)
+        (a.laws.front w.history w.net _ _ (prefix_take r.known r.log) (lists w n r a).log) (follower_mine f)) [] (λ t. absurd (false≢true (sym f ∙ t))) (says_none w a.primary.epochs a.primary.leads w.declared)
 
     configured : MemberStep w n r a (primary_configured (record r { view = config.view; members = config.members }))
     configured = cond_both (is_primary (record r { view = config.view; members = config.members })) (primary_grew leader) (sends follower []) (MemberStep w n r a) leads_row follows_row

@@ -1,4 +1,3 @@
 mod Services
 pub mod Opens
 pub mod Kept
-pub mod NoneAbove

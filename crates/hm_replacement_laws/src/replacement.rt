@@ -6,13 +6,17 @@ ghost use Rattle.hm_core_laws.specs.Core.{Core};
 ghost use Rattle.hm_core_laws.specs.Accepted.{OneAccepted};
 ghost use Rattle.hm_replacement_laws.specs.Replacement.{ReplacementHolds, NoneStartedAbove};
 
-use hm_core_laws::events::events_are_changes;
+use hm_core_laws::epochs::replicas_open;
+use hm_core_laws::events::{events_are_changes, started_switches_are_counted};
+use hm_due_law::growth::commits_are_of_declared_switches;
 use hm_step_laws::steps::every_step_keeps;
 
 /// The facts on replaced switches hold before the first event, whatever the setup.
 pub fn replacement_holds_at_first()
     ensures { (setup : Setup) → ReplacementHolds (opens setup) }
-{}
+{
+    replicas_open();
+}
 
 /// Each event keeps the facts on replaced switches, whatever the protocol of the replicas.
 pub fn events_keep_replacement()
@@ -25,11 +29,15 @@ pub fn events_keep_replacement()
 /// No switch was started that is above the one that a live replica takes.
 pub fn no_switch_above()
     ensures { (w : World) → Core w → ReplacementHolds w → NoneStartedAbove w }
-{}
+{
+    started_switches_are_counted();
+}
 
 /// No live replica takes writes or stamped reads of a switch that is below one of which a write was committed.
 pub fn one_switch_is_accepted()
     ensures { (w : World) → Core w → ReplacementHolds w → OneAccepted w }
 {
     no_switch_above();
+    started_switches_are_counted();
+    commits_are_of_declared_switches();
 }

@@ -36,7 +36,7 @@ use Rattle.hm_packet.specs.declared.body.Body.TheVariants as body
 module _ (w : World) (before : Ghost) (n : ℕ) (small : n < length w.replicas) where
   -- a check behind packets that were sent already
   pub checked_first : (outs : List Message) (s : Stepped) → Checked w before n outs s → Checked w before n [] (sends_first outs s)
-  checked_first outs s x = record { ends = ends_first (Good w (group w)) (good_stays w (group w)) (Sound w) (group w) before w.replicas w.net n [] outs s x.ends; leads = x.leads; quiet = x.quiet }
+  checked_first outs s x = record { laws = x.laws; ends = ends_first (Good w (group w)) (good_stays w (group w)) (Sound w) (group w) before w.replicas w.net n [] outs s x.ends; leads = x.leads; quiet = x.quiet }
 
   module _ (front : List Message) (r : Replica) (h : IsHere w before n front r) (change : r.status ≡ Change) where
     own : MemberHolds (group w) h.ghost n r
@@ -50,8 +50,8 @@ module _ (w : World) (before : Ghost) (n : ℕ) (small : n < length w.replicas) 
 
     tallying : (x : Replica) → IsHere w before n front x → x.status ≡ Change → (group w).leader x.view ≡ n → Checked w before n front (tallies x)
     tallying x k e leader =
-        let d = tallied (Good w (group w)) (good_stays w (group w)) (Sound w) (fronts_sound w) (group w) before w.replicas w.net n k.ghost x front (may_send w (group w) w.replicas w.net n) k.grew k.same k.logs k.focus (inl e) leader (faults_are w before n k.ghost x k.focus.mine) e in
-        record { ends = d.ends; leads = d.leads; quiet = d.quiet }
+        let d = tallied (Good w (group w)) (good_stays w (group w)) (Sound w) (fronts_sound k.laws w) (group w) before w.replicas w.net n k.ghost x front (may_send k.laws w (group w) w.replicas w.net n) k.grew k.same k.logs k.focus (inl e) leader (faults_are w before n k.ghost x k.focus.mine) e in
+        record { laws = k.laws; ends = d.ends; leads = d.leads; quiet = d.quiet }
 
     voted : IsHere w before n front (with_vote r.me (own_vote r) r)
     voted = here_alone w before n front r h (with_vote r.me (own_vote r) r) (focus_voted (Good w (group w)) (good_stays w (group w)) (group w) h.ghost w.replicas w.net n r front h.focus r.me (own_vote r) change (subst (λ (q : ℕ). q < length w.replicas) (sym own.me) small) mine_at)
@@ -64,7 +64,7 @@ module _ (w : World) (before : Ghost) (n : ℕ) (small : n < length w.replicas) 
         (λ t. let leader : (group w).leader r.view ≡ n = own_leader w before n h.ghost r own t in
         cond_both (nat_le (faults r) (heard_count r) && not (is_some (vote_of r r.me))) (with_vote r.me (own_vote r) r) r (λ (x : Replica). Checked w before n front (tallies x))
         (λ u. tallying (with_vote r.me (own_vote r) r) voted change leader) (λ u. tallying r h change leader))
-        (λ t. record { ends = here_ends w before n front r h (votes_if_due r) votes_may; leads = λ e. absurd (let x : Change ≡ Normal = sym change ∙ e in cc); quiet = refl })
+        (λ t. record { laws = h.laws; ends = here_ends w before n front r h (votes_if_due r) votes_may; leads = λ e. absurd (let x : Change ≡ Normal = sym change ∙ e in cc); quiet = refl })
 
   -- ---- entering a view
 
@@ -141,6 +141,7 @@ module _ (w : World) (before : Ghost) (n : ℕ) (small : n < length w.replicas) 
       let e = x.ends in
       let r : Replica = s.replica in
       let h : IsHere w before n s.outs r = record {
+        laws = x.laws;
         ghost = e.ghost;
         grew = e.grew;
         same = subst (λ (d : Declared). e.ghost.declared ≡ declared_after before.declared r.log d.to) x.quiet e.same ∙ nothing_declared before.declared r.log;

@@ -7,7 +7,6 @@ use Rattle.hm_base.specs.declared.why.Why.{Why}
 use Rattle.hm_base.proofs.ListLaws.{All-prefix}
 use Rattle.hm_core_laws.proofs.Members.{numbers-length}
 use Rattle.hm_core_laws.specs.Sourced.{IsSourced}
-use Rattle.hm_due_law.proofs.Tidies.{tidy_prefix}
 use Rattle.hm_packet.specs.Messages.{Message}
 use Rattle.hm_rules.specs.Replica.{Replica}
 use Rattle.hm_rules.specs.Replica.Status.{Normal}
@@ -24,12 +23,14 @@ use Rattle.hm_view_laws.specs.Leads.{Ghost, Group}
 use Rattle.hm_vr_laws.proofs.Saying.{good_stays, may_send}
 use Rattle.hm_vr_laws.specs.Voted.{Good, Sound, group_of}
 use Rattle.hm_packet.specs.declared.acted.Did.TheVariants as did
+use Rattle.hm_vr_laws.proofs.Laws.{StepLaws}
 
 abbrev pub group : World → Group
 group w = group_of (length w.replicas)
 
 -- In the middle of a step of replica n, behind the packets that it has sent already: nothing is declared yet.
 pub record IsHere (w : World) (before : Ghost) (n : ℕ) (front : List Message) (r : Replica) : Type 0 where
+  pub laws : StepLaws
   pub ghost : Ghost
   pub grew : Grew before ghost
   pub same : ghost.declared ≡ before.declared
@@ -38,12 +39,13 @@ pub record IsHere (w : World) (before : Ghost) (n : ℕ) (front : List Message) 
 
 -- A part of a step that changes the view has ended; where it has begun the view, its primary leads it.
 pub record Checked (w : World) (before : Ghost) (n : ℕ) (front : List Message) (s : Stepped) : Type 0 where
+  pub laws : StepLaws
   pub ends : Ends (Good w (group w)) (Sound w) (group w) before w.replicas w.net n front s
   pub leads : s.replica.status ≡ Normal → (group w).leader s.replica.view ≡ n
   pub quiet : s.declared ≡ nothing
 
-pub fronts_sound : (w : World) → Fronts (Sound w)
-fronts_sound w xs ys p l = record { sourced = All-prefix (IsSourced w.history w.net) p l.sourced; tidy = tidy_prefix p l.tidy }
+pub fronts_sound : StepLaws → (w : World) → Fronts (Sound w)
+fronts_sound laws w xs ys p l = laws.front w.history w.net xs ys p l
 
 module _ (w : World) (before : Ghost) (n : ℕ) where
   abbrev c : Group
@@ -88,15 +90,15 @@ module _ (w : World) (before : Ghost) (n : ℕ) where
 
   module _ (front : List Message) (r : Replica) (h : IsHere w before n front r) where
     pub here_sent : (outs : List Message) → All (Good w (group w) h.ghost) outs → IsHere w before n (front ++ outs) r
-    here_sent outs all = record { ghost = h.ghost; grew = h.grew; same = h.same; logs = h.logs; focus = focus_sent (Good w (group w)) (good_stays w (group w)) (group w) h.ghost w.replicas w.net n r front h.focus outs all }
+    here_sent outs all = record { laws = h.laws; ghost = h.ghost; grew = h.grew; same = h.same; logs = h.logs; focus = focus_sent (Good w (group w)) (good_stays w (group w)) (group w) h.ghost w.replicas w.net n r front h.focus outs all }
 
     -- the replica changes alone
     pub here_alone : (m : Replica) → Focus (Good w (group w)) (group w) h.ghost w.replicas w.net n m front → IsHere w before n front m
-    here_alone m f = record { ghost = h.ghost; grew = h.grew; same = h.same; logs = h.logs; focus = f }
+    here_alone m f = record { laws = h.laws; ghost = h.ghost; grew = h.grew; same = h.same; logs = h.logs; focus = f }
 
     -- the ghost grows with it
     pub here_moved : (g : Ghost) (m : Replica) → g.declared ≡ h.ghost.declared → Logs (Sound w) g → Moved (Good w (group w)) (good_stays w (group w)) (group w) w.replicas w.net n h.ghost g m front → IsHere w before n front m
-    here_moved g m same logs x = record { ghost = g; grew = grew_then h.grew x.grew; same = same ∙ h.same; logs = logs; focus = x.focus }
+    here_moved g m same logs x = record { laws = h.laws; ghost = g; grew = grew_then h.grew x.grew; same = same ∙ h.same; logs = logs; focus = x.focus }
 
     -- the step ends with these packets
     pub here_ends : (outs : List Message) → All (Good w (group w) h.ghost) outs → Ends (Good w (group w)) (Sound w) (group w) before w.replicas w.net n front (sends r outs)
@@ -111,11 +113,11 @@ module _ (w : World) (before : Ghost) (n : ℕ) where
     module _ (small : n < length w.replicas) (normal : r.status ≡ Normal) (leader : (group w).leader r.view ≡ n) where
       pub here_commits : Ends (Good w (group w)) (Sound w) (group w) before w.replicas w.net n front (vr_commits r)
       here_commits = subst (λ (k : ℕ). Ends (Good w (group w)) (Sound w) (group w) before w.replicas w.net n front (commits k r)) (sym (faults_are h.ghost r h.focus.mine))
-          (ends_commits (Good w (group w)) (good_stays w (group w)) (Sound w) (group w) before w.replicas w.net n h.ghost r front (fronts_sound w) (may_send w (group w) w.replicas w.net n) h.grew h.same h.logs h.focus normal leader small)
+          (ends_commits (Good w (group w)) (good_stays w (group w)) (Sound w) (group w) before w.replicas w.net n h.ghost r front (fronts_sound h.laws w) (may_send h.laws w (group w) w.replicas w.net n) h.grew h.same h.logs h.focus normal leader small)
 
       pub here_grew : Ends (Good w (group w)) (Sound w) (group w) before w.replicas w.net n front (vr_grew r)
       here_grew = subst (λ (k : ℕ). Ends (Good w (group w)) (Sound w) (group w) before w.replicas w.net n front (and_sends (commits k r) pages)) (sym (faults_are h.ghost r h.focus.mine))
-          (ends_grew (Good w (group w)) (good_stays w (group w)) (Sound w) (group w) before w.replicas w.net n h.ghost r front (fronts_sound w) (may_send w (group w) w.replicas w.net n) h.grew h.same h.logs h.focus normal leader small)
+          (ends_grew (Good w (group w)) (good_stays w (group w)) (Sound w) (group w) before w.replicas w.net n h.ghost r front (fronts_sound h.laws w) (may_send h.laws w (group w) w.replicas w.net n) h.grew h.same h.logs h.focus normal leader small)
 
   -- ---- packets of which nothing is wanted but what the view's facts say
 

@@ -1,3 +1,4 @@
+mod Laws
 pub mod Saying
 pub mod Here
 pub mod Enters

@@ -4,7 +4,7 @@ use Rattle.std.proofs.lemmas.List.Elements.{All-append, All-cons, All-map, All-n
 use Rattle.std.proofs.Common.{List, None, Option, Some, [], ap, arith, get_or, length, refl, subst, sym, take, true, ℕ, ◌++◌, ◌+◌, ◌<◌, ◌∙◌, ◌∷◌, ◌≡◌, ◌≤◌}
 use Rattle.std.proofs.lemmas.Bool.{and_parts, cond_both, eqb-true, false≢true, ltb-false, ltb-true, not-false, or_left, or_right}
 use Rattle.std.proofs.lemmas.List.{length-take-le}
-use Rattle.hm_base.proofs.ListLaws.{each_at, prefix_at, prefix_at_back, prefix_take, filter_at}
+use Rattle.hm_base.proofs.ListLaws.{each_at, prefix_at, prefix_at_back, prefix_take, filter_at, last_stands}
 use Rattle.hm_base.specs.Lists.{IsPrefix}
 use Rattle.hm_base.specs.Logs.{end_stamp, greatest_request, is_put, is_write, latest, read_behind, writes}
 use Rattle.hm_base.specs.Stamps.{◌≺◌}
@@ -17,18 +17,13 @@ use Rattle.hm_base.specs.declared.stamp.Stamp.{Stamp}
 use Rattle.hm_base.specs.declared.verdict.Admit.{Admit}
 use Rattle.hm_base.specs.declared.verdict.LatestRequest.{LatestRequest}
 use Rattle.hm_base.specs.declared.verdict.Verdict.{Verdict}
-use Rattle.hm_core_laws.proofs.ListSteps.{last_stands}
-use Rattle.hm_core_laws.proofs.HoldsLater.{holds_later}
 use Rattle.hm_core_laws.specs.Core.{Core}
 use Rattle.hm_core_laws.specs.Later.{StaysTrue}
 use Rattle.hm_core_laws.specs.Packets.{Holds, IsCompletion, WasAsked, op}
 use Rattle.hm_core_laws.specs.Sourced.{IsSourced}
-use Rattle.hm_due_law.proofs.ReadAnswers.{behind_due, look_due}
-use Rattle.hm_due_law.proofs.Requests.{StandsAt, admission_takes, greatest_stands, tidy_look_push, tidy_write_push}
 use Rattle.hm_due_law.specs.Answers.{IsDueNow, IsFresh}
 use Rattle.hm_due_law.specs.Declared.{NoneAbove, WasInvoked, wanted}
 use Rattle.hm_due_law.specs.Tidy.{IsTidy}
-use Rattle.hm_order.proofs.Growth.{want_invoked}
 use Rattle.hm_order.specs.Marks.{At, want_of, op_of}
 use Rattle.hm_packet.specs.Messages.{Message}
 use Rattle.hm_packet.specs.declared.body.FastRead.{FastRead}
@@ -69,21 +64,7 @@ use Rattle.hm_packet.specs.declared.body.Body.TheVariants as body
 use Rattle.hm_base.specs.declared.verdict.Admit.TheVariants as admit
 use Rattle.hm_base.specs.declared.verdict.Verdict.TheVariants as verdict
 use Rattle.hm_order.specs.declared.mark.Want.TheVariants as want
-
--- a request that is found again stands at that place
-again_stands : (log : List Entry) (client request index : ℕ) → judge log client request ≡ verdict.Again index → (e : Entry) × At log index e × (e.client ≡ client) × (e.request ≡ request)
-again_stands log client request index = go (greatest_request log client) refl
-  where
-    go : (o : Option LatestRequest) → greatest_request log client ≡ o → judged o request ≡ verdict.Again index → (e : Entry) × At log index e × (e.client ≡ client) × (e.request ≡ request)
-    go None is a = absurd (cc)
-    go (Some known) is a =
-        let s : StandsAt log client known = greatest_stands log client known is in
-        cond_both (known.request == request) (verdict.Again known.index) (if nat_lt request known.request then verdict.Old else verdict.New) (λ (v : Verdict). v ≡ verdict.Again index → (e : Entry) × At log index e × (e.client ≡ client) × (e.request ≡ request))
-        (λ t b.
-        let place : known.index ≡ index = cc in
-        (s.entry, subst (λ (i : ℕ). At log i s.entry) place s.there, s.of_client, s.with_request ∙ eqb-true known.request request t))
-        (λ t b. absurd (cond_both (nat_lt request known.request) verdict.Old verdict.New (λ (v : Verdict). v ≡ verdict.Again index → ⊥) (λ u x. cc) (λ u x. cc) b))
-        a
+use Rattle.hm_order.proofs.Positions.{want_invoked}
 
 -- the commit rule changes what is known alone
 abbrev Like : Replica → Replica → Type 0
@@ -98,7 +79,7 @@ module _ (w : World) (core : Core w) (before : Ghost) (n : ℕ) (small : n < len
 
   -- what is true now stays so
   stays_true : (m : Message) → Holds w.history w.declared w.net m → StaysTrue w h.ghost.declared m
-  stays_true m x = λ history declared net later p. holds_later later.marks later.entries later.packets core.agree.formed m x
+  stays_true m x = λ history declared more later p. h.laws.stays w.history history w.declared declared w.net more m later.marks later.entries later.packets core.agree.formed x
 
   leads_are : leads r ≡ true → ((group w).leader r.view ≡ n) × (r.status ≡ Normal)
   leads_are t =
@@ -156,9 +137,7 @@ module _ (w : World) (core : Core w) (before : Ghost) (n : ℕ) (small : n < len
       admitting : (a : Admit) → admission r.accepted r.log put.stamp put.client put.request ≡ a → Row (admits vr_grew done_again r put a)
       admitting (admit.Drop reason) e = ignores w before n r reason
       admitting (admit.Again index) e = answering index (slice_get r.log index) refl
-      admitting admit.Take e =
-          let t : (r.accepted ≡ put.stamp.switch) × (end_stamp r.log ≺ put.stamp) × (judge r.log put.client put.request ≡ verdict.New) = admission_takes r.accepted r.log put.stamp put.client put.request e in
-          appended (entry_of put) source (tidy_write_push r.log (entry_of put) (core.replicas n r there).log.tidy refl t.1 t.2)
+      admitting admit.Take e = appended (entry_of put) source (h.laws.write_tidy r.accepted r.log (entry_of put) (core.replicas n r there).log.tidy refl e)
 
     -- a read that the log keeps
 
@@ -181,7 +160,7 @@ module _ (w : World) (core : Core w) (before : Ghost) (n : ℕ) (small : n < len
           says reply tt (record {
             invoked = want_invoked w.history (op read.client read.request) (want.Read read.object) was;
             due = subst (λ (o : ℕ). IsDueNow w.history (op read.client read.request) (latest (applied r) o)) object
-                (subst (λ (o : OpId). IsDueNow w.history o (latest (applied r) e.object)) operation (look_due w.history w.declared (applied r) index e core.agree.records core.agree.looks applied_is here reads));
+                (subst (λ (o : OpId). IsDueNow w.history o (latest (applied r) e.object)) operation (h.laws.look w.history w.declared (applied r) index e core.agree.records core.agree.looks applied_is here reads));
           }) refl)
         where
           look_object : (a b : ℕ) (x : Act) → is_put x ≡ false → wanted a x ≡ want.Read b → a ≡ b
@@ -191,9 +170,9 @@ module _ (w : World) (core : Core w) (before : Ghost) (n : ℕ) (small : n < len
       logging : (v : Verdict) → judge r.log read.client read.request ≡ v → Row (logs_read r read v)
       logging verdict.Old e = ignores w before n r why.Repeat
       logging (verdict.Again index) e =
-          let s = again_stands r.log read.client read.request index e in
+          let s = h.laws.again r.log read.client read.request index e in
           subst (λ (o : Option Entry). Row (read_again r read index o)) (sym s.1) (looks_again index s.0 s.1 s.2 s.3)
-      logging verdict.New e = appended (look_of r read) look_sourced (tidy_look_push r.log (look_of r read) (core.replicas n r there).log.tidy refl refl e)
+      logging verdict.New e = appended (look_of r read) look_sourced (h.laws.look_tidy r.log (look_of r read) (core.replicas n r there).log.tidy refl refl e)
 
   pub put_row : (put : Put) → IsSourced w.history w.net (entry_of put) → Row (vr_put r put)
   put_row put source = cond_both (leads r) (takes_put vr_grew done_again r put) (ignored r why.Status) Row
@@ -209,7 +188,7 @@ module _ (w : World) (core : Core w) (before : Ghost) (n : ℕ) (small : n < len
       → Row (stamped_read o (primary_of r r.view) (vr_normal_read r) r read)
   stamped none read (Some found) e fresh = λ d. says (read_reply r read.client read.request found) tt (record {
     invoked = want_invoked w.history (op read.client read.request) (want.Read read.object) fresh.read;
-    due = behind_due w.history w.declared (applied r) (op read.client read.request) read.object r.accepted read.stamp found core.agree.records applied_is fresh none e;
+    due = h.laws.behind w.history w.declared (applied r) (op read.client read.request) read.object r.accepted read.stamp found core.agree.records applied_is fresh none e;
   }) refl
   stamped none read None e fresh =
       let passed : Message = to r (node.Replica (primary_of r r.view)) (body.NormalRead (as_normal read)) in
@@ -249,7 +228,7 @@ module _ (w : World) (core : Core w) (before : Ghost) (n : ℕ) (small : n < len
           let x : Replica = (vr_commits (with_acked r from ack.len)).replica in
           let sound : Sound w x.log = subst (Sound w) (sym like.2) (core.replicas n r there).log in
           cond_both (nat_lt ack.len (len x)) (page_to x x.start x.known from ∷ []) [] (All (Good w (group w) g))
-          (λ t. one_sent w before n g (page_to x x.start x.known from) ((may_send w (group w) w.replicas w.net n).page g x ([] ++ (vr_commits (with_acked r from ack.len)).outs) f (like.0 ∙ normal) (ap (λ (v : ℕ). (group w).leader v) like.1 ∙ leader) sound from))
+          (λ t. one_sent w before n g (page_to x x.start x.known from) ((may_send h.laws w (group w) w.replicas w.net n).page g x ([] ++ (vr_commits (with_acked r from ack.len)).outs) f (like.0 ∙ normal) (ap (λ (v : ℕ). (group w).leader v) like.1 ∙ leader) sound from))
           (λ t. All-nil (Good w (group w) g))
 
   -- ---- what is known to be committed
@@ -299,7 +278,7 @@ module _ (w : World) (core : Core w) (before : Ghost) (n : ℕ) (small : n < len
   told_may : ((group w).leader r.view ≡ n) → (r.status ≡ Normal) → (other : ℕ) → Good w (group w) h.ghost (known_or_page r other)
   told_may leader normal other = cond_both (acked_by r other == len r) (to r (node.Replica other) (body.Known (record { view = r.view; len = r.known }))) (page_to r r.start r.known other) (Good w (group w) h.ghost)
       (λ t. (commit_holds (Good w (group w)) (good_stays w (group w)) (group w) h.ghost w.replicas w.net n r [] h.focus normal leader, λ history declared net later p. tt, refl))
-      (λ t. (may_send w (group w) w.replicas w.net n).page h.ghost r [] h.focus normal leader (core.replicas n r there).log other)
+      (λ t. (may_send h.laws w (group w) w.replicas w.net n).page h.ghost r [] h.focus normal leader (core.replicas n r there).log other)
 
   starts_again : All (Good w (group w) h.ghost) (start_to_others r)
   starts_again = All-map (Good w (group w) h.ghost) (λ (other : ℕ). to r (node.Replica other) (body.StartViewChange (record { view = r.view }))) (others r) (λ k d l. (tt, λ history declared net later p. tt, refl))

@@ -9,7 +9,6 @@ use Rattle.hm_base.specs.Lists.{IsPrefix, IsSlice}
 use Rattle.hm_base.specs.Logs.{max_page_len, page}
 use Rattle.hm_base.specs.Taking.{extended, held}
 use Rattle.hm_base.specs.declared.entry.Entry.{Entry}
-use Rattle.hm_core_laws.proofs.Sources.{all_sourced_later}
 use Rattle.hm_core_laws.specs.Core.{Core, ListHolds}
 use Rattle.hm_core_laws.specs.Sourced.{IsSourced}
 use Rattle.hm_packet.specs.Messages.{Message}
@@ -116,7 +115,7 @@ module _ (w : World) (core : Core w) (before : Ghost) (n : ℕ) (small : n < len
       let list : ListHolds w.history w.net r.log = (core.replicas n r there).log in
       here_ends w before n [] r h (reply ∷ []) (one_sent w before n h.ghost reply (
         subst (λ (q : ℕ). PageHolds h.ghost q sent) (sym own.me) holds,
-        λ history declared net later p. all_sourced_later (page r.log pull.first) later.marks later.packets (All-take (IsSourced w.history w.net) max_page_len (drop pull.first r.log) (All-drop (IsSourced w.history w.net) pull.first r.log list.sourced)),
+        λ history declared more later p. h.laws.sourced w.history history w.net more (page r.log pull.first) later.marks later.packets (All-take (IsSourced w.history w.net) max_page_len (drop pull.first r.log) (All-drop (IsSourced w.history w.net) pull.first r.log list.sourced)),
         refl,
       ))))))
     where
@@ -151,14 +150,15 @@ module _ (w : World) (core : Core w) (before : Ghost) (n : ℕ) (small : n < len
         cond_both (length list == p.vote.len) (sends (begun_with list r) []) (sends pulling (pull_from pulling p.choice ∷ [])) (Checked w before n [])
         (λ t.
         let whole : list ≡ take p.vote.len (h.ghost.leads p.vote.normal).log = prefix_equal begun (let e : length list ≡ p.vote.len = eqb-true (length list) p.vote.len t in omega (arith, length-take p.vote.len (h.ghost.leads p.vote.normal).log)) in
-        let d = begins (Good w (group w)) (good_stays w (group w)) (Sound w) (fronts_sound w) (group w) before w.replicas w.net n h.ghost r [] (may_send w (group w) w.replicas w.net n) h.grew h.same h.logs h.focus (inr pulls) p.leader (faults_are w before n h.ghost r own) p.choice p.vote list p.best whole in
-        record { ends = d.ends; leads = d.leads; quiet = d.quiet })
+        let d = begins (Good w (group w)) (good_stays w (group w)) (Sound w) (fronts_sound h.laws w) (group w) before w.replicas w.net n h.ghost r [] (may_send h.laws w (group w) w.replicas w.net n) h.grew h.same h.logs h.focus (inr pulls) p.leader (faults_are w before n h.ghost r own) p.choice p.vote list p.best whole in
+        record { laws = h.laws; ends = d.ends; leads = d.leads; quiet = d.quiet })
         (λ t.
         let k : IsHere w before n [] pulling = here_alone w before n [] r h pulling (focus_pulled (Good w (group w)) (good_stays w (group w)) (group w) h.ghost w.replicas w.net n r [] h.focus list pulls (λ choice x is best.
         let same : p.choice ≡ choice = some_same (sym p.choice_is ∙ is) in
         let vote : p.vote ≡ x = some_same (sym p.best.chosen ∙ ap (λ (q : ℕ). vote_of r q) same ∙ best.chosen) in
         subst (λ (y : Vote). IsPrefix list (take y.len (h.ghost.leads y.normal).log)) vote begun)) in
         record {
+          laws = h.laws;
           ends = here_ends w before n [] pulling k (pull_from pulling p.choice ∷ []) (one_sent w before n k.ghost (pull_from pulling p.choice) (tt, λ history declared net later p. tt, refl));
           leads = λ e. p.leader;
           quiet = refl;

@@ -5,7 +5,6 @@ use Rattle.std.proofs.Common.{List, ap, length, subst, sym, ℕ, ◌∙◌}
 use Rattle.std.proofs.lemmas.Bool.{false≢true}
 use Rattle.hm_base.proofs.ListLaws.{prefix_append, prefix_same}
 use Rattle.hm_base.specs.Lists.{IsPrefix}
-use Rattle.hm_core_laws.proofs.HoldsLater.{list_later}
 use Rattle.hm_core_laws.specs.Changes.{Change, IsQuiet, is_quiet}
 use Rattle.hm_core_laws.specs.Core.{Core}
 use Rattle.hm_core_laws.specs.Owed.{StepsSound}
@@ -24,9 +23,11 @@ use Rattle.hm_vr_laws.proofs.VrSteps.{after_step, ends_from, sound_from}
 use Rattle.hm_core_laws.specs.Accepted.{OneAccepted}
 use Rattle.hm_vr_laws.specs.Voted.{HasQuorums, VrHolds, group_of}
 use Rattle.hm_packet.specs.declared.body.Body.TheVariants as body
+use Rattle.hm_core_laws.specs.Laws.{DeclaringStepIsSound, ListGoesOnHolding}
+use Rattle.hm_vr_laws.proofs.Laws.{StepLaws}
 
-pub steps_sound : (w : World) → Core w → OneAccepted w → VrHolds w → StepsSound w
-steps_sound w core one vr n s x = sound_from w core vr n s (ends_from w core vr n x.replica x.there (one n x.replica x.there x.live) s x.origin x.done)
+pub steps_sound : StepLaws → DeclaringStepIsSound → (w : World) → Core w → OneAccepted w → VrHolds w → StepsSound w
+steps_sound laws declaring w core one vr n s x = sound_from laws w core vr n s (ends_from laws w core vr n x.replica x.there (one n x.replica x.there x.live) s x.origin x.done) declaring
 
 -- clients, switches and the service send none of the packets that facts speak of
 quiet_fits : (c : Group) (g : Ghost) (from : ℕ) (b : Body) → IsTrue (is_quiet b) → BodyFits c g from b
@@ -37,8 +38,8 @@ quiet_fits c g from (body.Vote vote) t = absurd (false≢true t)
 quiet_fits c g from (body.Page sent) t = absurd (false≢true t)
 quiet_fits c g from other t = tt
 
-after_quiet : (w : World) → Core w → VrHolds w → (new : World) → IsQuiet w new → VrHolds new
-after_quiet w core vr new q =
+after_quiet : ListGoesOnHolding → (w : World) → Core w → VrHolds w → (new : World) → IsQuiet w new → VrHolds new
+after_quiet lists w core vr new q =
     let net : IsPrefix w.net new.net = subst (λ (l : List Message). IsPrefix w.net l) (sym q.net) (prefix_append w.net q.sent) in
     record {
       kind = ap (λ (s : Setup). s.kind) q.setup ∙ vr.kind;
@@ -54,10 +55,10 @@ after_quiet w core vr new q =
         last = vr.group.last;
         decided = vr.group.decided;
       }));
-      logs = λ v begun. list_later q.history (prefix_same w.declared) net core.agree.formed (vr.ghost.leads v).log (vr.logs v begun);
+      logs = λ v begun. lists w.history new.history w.net new.net (vr.ghost.leads v).log q.history net (vr.logs v begun);
     }
 
-pub goes_on : (w new : World) → Core w → OneAccepted w → VrHolds w → Change w new → VrHolds new
-goes_on w new core one vr (Change.Quiet q) = after_quiet w core vr new q
-goes_on w new core one vr (Change.Step n s x e) = subst VrHolds (sym e) (after_step w core vr n s (ends_from w core vr n x.replica x.there (one n x.replica x.there x.live) s x.origin x.done) new.cursor)
-goes_on w new core one vr (Change.Removal n x) = true_false (ap is_fixed vr.kind) x.free
+pub goes_on : StepLaws → ListGoesOnHolding → (w new : World) → Core w → OneAccepted w → VrHolds w → Change w new → VrHolds new
+goes_on laws lists w new core one vr (Change.Quiet q) = after_quiet lists w core vr new q
+goes_on laws lists w new core one vr (Change.Step n s x e) = subst VrHolds (sym e) (after_step laws w core vr n s (ends_from laws w core vr n x.replica x.there (one n x.replica x.there x.live) s x.origin x.done) lists new.cursor)
+goes_on laws lists w new core one vr (Change.Removal n x) = true_false (ap is_fixed vr.kind) x.free

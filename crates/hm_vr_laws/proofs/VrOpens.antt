@@ -7,9 +7,8 @@ use Rattle.std.proofs.lemmas.List.{length-map}
 use Rattle.std.proofs.lemmas.Option.{none-some}
 use Rattle.hm_base.proofs.ListLaws.{prefix_nil, map_at}
 use Rattle.hm_base.specs.declared.node.GroupKind.TheVariants.{Vr}
-use Rattle.hm_core_laws.proofs.Members.{numbers-length, numbers_at}
+use Rattle.hm_core_laws.proofs.Members.{numbers-length}
 use Rattle.hm_core_laws.specs.Sourced.{IsSourced}
-use Rattle.hm_due_law.proofs.Tidies.{tidy_nil}
 use Rattle.hm_order.specs.Marks.{At}
 use Rattle.hm_rules.specs.Events.{Setup}
 use Rattle.hm_rules.specs.Numbers.{numbers_from}
@@ -22,13 +21,14 @@ use Rattle.hm_view_laws.specs.Decided.{Chosen, Decided, ViewHolds}
 use Rattle.hm_view_laws.specs.Facts.{Fits, MemberHolds}
 use Rattle.hm_view_laws.specs.Leads.{Group}
 use Rattle.hm_vr_laws.specs.Voted.{HasQuorums, Sound, VrHolds, first_ghost, first_lead, group_of}
+use Rattle.hm_core_laws.specs.Laws.{ReplicasOpen}
 
 -- all of them pass
 count_all : (t : ℕ → Bool) (n : ℕ) → ((q : ℕ) → t q ≡ true) → count t n ≡ n
 count_all t zero h = refl
 count_all t (suc n) h = (let rest : count t n ≡ n = count_all t n h in let one : one_if (t n) ≡ 1 = ap one_if (h n) in omega arith)
 
-module _ (setup : Setup) (quorums : HasQuorums setup.size) where
+module _ (open_replicas : ReplicasOpen) (setup : Setup) (quorums : HasQuorums setup.size) where
   abbrev size : ℕ
   size = length (opened_replicas setup)
 
@@ -91,18 +91,12 @@ module _ (setup : Setup) (quorums : HasQuorums setup.size) where
     };
   }
 
-  replica_is : (n : ℕ) (r : Replica) → slice_get (opened_replicas setup) n ≡ Some r → opening n ≡ r
-  replica_is n r at =
-      let x : (m : ℕ) × At (replicas_below setup.size) n m × (opening m ≡ r) = map_at opening (replicas_below setup.size) n r at in
-      let same : x.0 ≡ n = (let e : x.0 ≡ 0 + n = numbers_at 0 setup.size n x.0 x.1 in omega arith) in
-      ap opening (sym same) ∙ x.2
-
   first_view : (v : ℕ) → (first_lead v).begun ≡ true → ViewHolds (group_of (length (opened_replicas setup))) first_ghost v
   first_view zero e = record { long = omega arith; quorum = λ (l : 0 < 0). absurd (omega arith); based = λ (l : 0 < 0). absurd (omega arith) }
   first_view (suc v) e = absurd (false≢true e)
 
   first_log : (v : ℕ) → (first_lead v).begun ≡ true → Sound (opens setup) (first_lead v).log
-  first_log zero e = record { sourced = All-nil (IsSourced [] []); tidy = tidy_nil }
+  first_log zero e = record { sourced = All-nil (IsSourced [] []); tidy = record { stamps = tt; requests = tt } }
   first_log (suc v) e = absurd (false≢true e)
 
   pub vr_opens : setup.kind ≡ Vr → VrHolds (opens setup)
@@ -115,7 +109,7 @@ module _ (setup : Setup) (quorums : HasQuorums setup.size) where
       odd = (let o : length (opened_replicas setup) ≡ 2 * ((length (opened_replicas setup) - 1) / 2) + 1 = odd in omega arith);
       views = first_view;
       casts = λ v q x e. absurd (none-some x e);
-      members = λ n r at. subst (λ (x : Replica). MemberHolds (group_of (length (opened_replicas setup))) first_ghost n x) (replica_is n r at) (member_opens n);
+      members = λ n r at. subst (λ (x : Replica). MemberHolds (group_of (length (opened_replicas setup))) first_ghost n x) (open_replicas setup n r at).1 (member_opens n);
       packets = All-nil (Fits (group_of (length (opened_replicas setup))) first_ghost);
       last = 0;
       decided = first_decided;

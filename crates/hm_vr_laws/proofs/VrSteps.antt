@@ -12,15 +12,12 @@ use Rattle.hm_base.specs.declared.entry.Entry.{Entry}
 use Rattle.hm_base.specs.declared.node.GroupKind.{GroupKind}
 use Rattle.hm_base.specs.declared.node.GroupKind.TheVariants.{Vr}
 use Rattle.hm_base.specs.declared.node.Node.{Node}
-use Rattle.hm_core_laws.proofs.Declaring.{declaring_sound}
-use Rattle.hm_core_laws.proofs.HoldsLater.{list_later}
 use Rattle.hm_core_laws.specs.Changes.{Origin}
 use Rattle.hm_core_laws.specs.Core.{Core}
 use Rattle.hm_core_laws.specs.Later.{StaysTrue}
 use Rattle.hm_core_laws.specs.Owed.{StepSound, declared_by}
 use Rattle.hm_core_laws.specs.Packets.{BodyHolds, Holds}
 use Rattle.hm_core_laws.specs.Sourced.{IsSourced}
-use Rattle.hm_due_law.proofs.Tidies.{tidy_nil}
 use Rattle.hm_due_law.specs.Declared.{NoneAbove}
 use Rattle.hm_packet.specs.Messages.{Message}
 use Rattle.hm_packet.specs.declared.body.Body.{Body}
@@ -51,6 +48,8 @@ use Rattle.hm_packet.specs.declared.body.Body.TheVariants as body
 use Rattle.hm_base.specs.declared.why.Why.TheVariants as why
 use Rattle.hm_packet.specs.declared.acted.Did.TheVariants as did
 use Rattle.hm_base.specs.declared.node.Node.TheVariants as node
+use Rattle.hm_core_laws.specs.Laws.{DeclaringStepIsSound, ListGoesOnHolding}
+use Rattle.hm_vr_laws.proofs.Laws.{StepLaws}
 
 -- a packet that replicas alone send comes from another replica
 other_replica : (src : Node) (b : Body) (me : ℕ) → client_sends b ≡ false → switch_sends b ≡ false → service_sends b ≡ false → may_send src b ≡ true → same_node src (node.Replica me) ≡ false → number src ≡ me → ⊥
@@ -59,7 +58,7 @@ other_replica (node.Switch k) b me c s v may same e = true_false may s
 other_replica (node.Replica k) b me c s v may same e = true_false (eq-eqb k me e) same
 other_replica node.Config b me c s v may same e = true_false may v
 
-module _ (w : World) (core : Core w) (vr : VrHolds w) (n : ℕ) (r : Replica) (there : slice_get w.replicas n ≡ Some r) (none : NoneAbove w.history r.accepted) where
+module _ (laws : StepLaws) (w : World) (core : Core w) (vr : VrHolds w) (n : ℕ) (r : Replica) (there : slice_get w.replicas n ≡ Some r) (none : NoneAbove w.history r.accepted) where
   abbrev Row : Stepped → Type 0
   Row s = s.did ≡ did.Done → Ended w vr.ghost n [] s
 
@@ -67,7 +66,7 @@ module _ (w : World) (core : Core w) (vr : VrHolds w) (n : ℕ) (r : Replica) (t
   small = slice_get_within w.replicas n r there
 
   here : IsHere w vr.ghost n [] r
-  here = record { ghost = vr.ghost; grew = grew_same vr.ghost; same = refl; logs = vr.logs; focus = focused (Good w (group w)) (good_stays w (group w)) (group w) w.replicas w.net n vr.ghost r there vr.group }
+  here = record { laws = laws; ghost = vr.ghost; grew = grew_same vr.ghost; same = refl; logs = vr.logs; focus = focused (Good w (group w)) (good_stays w (group w)) (group w) w.replicas w.net n vr.ghost r there vr.group }
 
   row : (src dst : Node) (b : Body) → BodyHolds w.history w.declared w.net src dst b → BodyFits (group w) vr.ghost (number src) b → may_send src b ≡ true → same_node src (node.Replica r.me) ≡ false → Row (vr_row r (number src) b)
   row src dst (body.Put put) x f may same = put_row w core vr.ghost n small r there here put x
@@ -107,7 +106,7 @@ module _ (w : World) (core : Core w) (vr : VrHolds w) (n : ℕ) (r : Replica) (t
 
 -- ---- what a step comes to
 
-module _ (w : World) (core : Core w) (vr : VrHolds w) (n : ℕ) (s : Stepped) (e : Ended w vr.ghost n [] s) where
+module _ (laws : StepLaws) (w : World) (core : Core w) (vr : VrHolds w) (n : ℕ) (s : Stepped) (e : Ended w vr.ghost n [] s) where
   own : MemberHolds (group w) e.ghost n s.replica
   own = e.focus.mine
 
@@ -115,10 +114,10 @@ module _ (w : World) (core : Core w) (vr : VrHolds w) (n : ℕ) (s : Stepped) (e
   declared_is = e.same ∙ ap (λ (k : List Entry). declared_after k s.replica.log s.declared.to) vr.same
 
   sound_front : (xs : List Entry) (v : ℕ) → (e.ghost.leads v).begun ≡ true → IsPrefix xs (e.ghost.leads v).log → Sound w xs
-  sound_front xs v begun p = fronts_sound w xs (e.ghost.leads v).log p (e.logs v begun)
+  sound_front xs v begun p = fronts_sound laws w xs (e.ghost.leads v).log p (e.logs v begun)
 
   none_staged : s.replica.staged ≡ None → Sound w (held [] s.replica.staged)
-  none_staged x = subst (λ (o : Option (List Entry)). Sound w (held [] o)) (sym x) (record { sourced = All-nil (IsSourced w.history w.net); tidy = tidy_nil })
+  none_staged x = subst (λ (o : Option (List Entry)). Sound w (held [] o)) (sym x) (record { sourced = All-nil (IsSourced w.history w.net); tidy = record { stamps = tt; requests = tt } })
 
   staged_sound : (t : Status) → s.replica.status ≡ t → Sound w (held [] s.replica.staged)
   staged_sound Normal i = none_staged (let x : NormalHolds (group w) e.ghost n s.replica = status_as (group w) e.ghost n s.replica i own.status in x.unstaged)
@@ -132,8 +131,8 @@ module _ (w : World) (core : Core w) (vr : VrHolds w) (n : ℕ) (s : Stepped) (e
       let x : StageHolds (group w) e.ghost n s.replica = status_as (group w) e.ghost n s.replica i own.status in
       subst (λ (o : Option (List Entry)). Sound w (held [] o)) (sym x.staged) (sound_front x.list s.replica.view x.begun x.begins)
 
-  pub sound_from : StepSound w n s
-  sound_from = declaring_sound w core n s
+  pub sound_from : DeclaringStepIsSound → StepSound w n s
+  sound_from declaring = declaring w n s core
       (sound_front s.replica.log s.replica.normal own.log.begun own.log.begins)
       (staged_sound s.replica.status refl)
       (subst (λ (k : List Entry). IsPrefix k (declared_by w s)) vr.same (subst (λ (k : List Entry). IsPrefix vr.ghost.declared k) declared_is e.grew.declared))
@@ -141,8 +140,8 @@ module _ (w : World) (core : Core w) (vr : VrHolds w) (n : ℕ) (s : Stepped) (e
       (All-weaker (Good w (group w) e.ghost) (λ (m : Message). IsTrue (replica_sends m.body)) (λ m x. x.2) s.outs e.focus.outs)
       (All-weaker (Good w (group w) e.ghost) (StaysTrue w (declared_by w s)) (λ m x. subst (λ (k : List Entry). StaysTrue w k m) declared_is x.1) s.outs e.focus.outs)
 
-  pub after_step : (cursor : ℕ) → VrHolds (record (stepped w n s) { cursor = cursor })
-  after_step cursor =
+  pub after_step : ListGoesOnHolding → (cursor : ℕ) → VrHolds (record (stepped w n s) { cursor = cursor })
+  after_step lists cursor =
       let count : length (slice_set w.replicas n s.replica) ≡ length w.replicas = length-set w.replicas n s.replica in
       record {
         kind = vr.kind;
@@ -150,5 +149,5 @@ module _ (w : World) (core : Core w) (vr : VrHolds w) (n : ℕ) (s : Stepped) (e
         ghost = e.ghost;
         same = declared_is;
         group = subst (λ (k : ℕ). GroupHolds (group_of k) e.ghost (slice_set w.replicas n s.replica) (w.net ++ s.outs)) (sym count) (finished e (λ m x. x.0));
-        logs = λ v begun. list_later (prefix_append w.history (commits_since w.declared (declared_by w s))) (prefix_same w.declared) (prefix_append w.net s.outs) core.agree.formed (e.ghost.leads v).log (e.logs v begun);
+        logs = λ v begun. lists w.history (w.history ++ commits_since w.declared (declared_by w s)) w.net (w.net ++ s.outs) (e.ghost.leads v).log (prefix_append w.history (commits_since w.declared (declared_by w s))) (prefix_append w.net s.outs) (e.logs v begun);
       }

@@ -1,5 +1,19 @@
+use Rattle.hm_chain_laws.proofs.Laws.{StepLaws, EpochLaws}
 use Rattle.hm_chain_laws.proofs.ChainEvents.{chain_after}
 use Rattle.hm_chain_laws.proofs.chain.chain_goes_on.Goals as goal
 
 pub returns : goal.returns
-returns c = λ w new core chain change. chain_after w core chain new change
+returns c = λ w new core chain change.
+    let laws : StepLaws = record {
+      whole = c.whole_list_answer_is_due.ensures;
+      ahead = c.answer_ahead_is_due.ensures;
+      write_tidy = c.admitted_write_keeps_tidy.ensures;
+      quiet = c.quiet_step_is_sound.ensures;
+      declaring = c.declaring_step_is_sound.ensures;
+      answers_sent = c.declared_answers_are_true.ensures.senders;
+      answers_true = c.declared_answers_are_true.ensures.holds;
+      sourced = c.lists_go_on_holding.ensures.sources;
+      front = c.lists_go_on_holding.ensures.front;
+    } in
+    let epochs : EpochLaws = record { quiet = c.epochs_go_on.ensures.quiet; step = c.epochs_go_on.ensures.step; removal = c.epochs_go_on.ensures.removal } in
+    chain_after laws w core chain epochs new change

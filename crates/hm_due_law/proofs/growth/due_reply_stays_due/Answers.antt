@@ -5,7 +5,7 @@ use Rattle.hm_due_law.proofs.Later.{due_later}
 use Rattle.hm_due_law.proofs.growth.due_reply_stays_due.Goals as goal
 
 pub returns-clause-stays : goal.returns-clause-stays
-returns-clause-stays c = λ h h' op reply f formed l d. due_later f formed op l reply d
+returns-clause-stays c = λ h h' op reply f formed d. due_later f formed op d.invoked reply d
 
 pub returns-clause-taken : goal.returns-clause-taken
-returns-clause-taken c = λ h op reply formed l d. due_push h (Reply op reply.0 reply.1) _ _ op reply.0 reply.1 formed l (omega arith) d
+returns-clause-taken c = λ h op reply formed d. due_push h (Reply op reply.0 reply.1) _ _ op reply.0 reply.1 formed d.invoked (omega arith) d

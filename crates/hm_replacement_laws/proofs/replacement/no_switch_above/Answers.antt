@@ -1,5 +1,8 @@
-use Rattle.hm_replacement_laws.proofs.NoneAbove.{none_started_above}
+use Rattle.std.proofs.Common.{ℕ, ◌≤◌, arith}
 use Rattle.hm_replacement_laws.proofs.replacement.no_switch_above.Goals as goal
 
 pub returns : goal.returns
-returns c = λ w core holds. none_started_above w core holds
+returns c = λ w core holds n r at live number s started.
+    let counted : number ≤ w.service.newest = c.started_switches_are_counted.ensures.counted w number s core started in
+    let newest : w.service.newest ≤ r.accepted = holds.accepted n r at live in
+    omega arith

@@ -1,4 +1,4 @@
--- Lists with one item replaced, or one more.
+-- Switches by number, and membership tests.
 use Rattle.std.proofs.Common.{◌≡◌, ℕ, zero, suc, ◌-◌, ◌<◌, ◌≤◌, ◌⊎◌, Bool, true, false, List, [], ◌∷◌, ◌++◌, length, map, drop, Option, Some, None, refl, sym, ap, subst, ◌∙◌, arith, inl, inr}
 use Rattle.std.specs.Prelude.{slice_get, slice_set, nat_eq, fold, if◌then◌else◌, All}
 use Rattle.std.proofs.lemmas.List.Elements.{All-take}
@@ -7,21 +7,14 @@ use Rattle.hm_base.specs.Lists.{IsPrefix}
 use Rattle.hm_base.proofs.ListLaws.{prefix_is_take}
 use Rattle.hm_rules.specs.ReplicaSteps.{last_of}
 use Rattle.std.proofs.lemmas.Bool.{cond_both, cond-true, cond-false, or_left, or_right, eq-eqb, eqb-false, ne_eqb}
-use Rattle.std.proofs.lemmas.Option.{none-some, same_Some}
+use Rattle.std.proofs.lemmas.Option.{none-some, same_Some, slice_get_within}
 use Rattle.hm_order.specs.Marks.{At}
 use Rattle.hm_rules.specs.Numbers.{stands_in}
 use Rattle.hm_rules.specs.Switch.{AbstractSwitch}
-
--- the last entry stands in the list
-last_from : (before : Option Entry) (log : List Entry) (e : Entry) → fold (λ (before : Option Entry) (e : Entry). Some e) before log ≡ Some e → (before ≡ Some e) ⊎ ((i : ℕ) × At log i e)
-last_from before [] e h = inl h
-last_from before (x ∷ log) e h = elim (last_from (Some x) log e h) [
-  | inl here ↦ inr (0, here)
-  | inr later ↦ inr (suc later.0, later.1)
-]
-
-pub last_stands : (log : List Entry) (e : Entry) → last_of log ≡ Some e → (i : ℕ) × At log i e
-last_stands log e h = elim (last_from None log e h) [ inl none ↦ absurd (none-some e none) | inr there ↦ there ]
+use Rattle.hm_rules.specs.World.{World, switch_at}
+use Rattle.std.specs.Prelude.{IsSome}
+use Rattle.hm_core_laws.specs.Sourced.{IsNumbered}
+use Rattle.hm_core_laws.specs.Core.{Core}
 
 -- ---- switches by number
 
@@ -56,3 +49,20 @@ stands_behind x zero xs i l a = stands_at x xs i a
 stands_behind x (suc n) [] i l a = absurd (none-some x a)
 stands_behind x (suc n) (y ∷ ys) zero l a = absurd (omega arith)
 stands_behind x (suc n) (y ∷ ys) (suc i) l a = stands_behind x n ys i (omega arith) a
+
+-- ---- in a world
+
+pub counted : (w : World) (number : ℕ) (s : AbstractSwitch) → Core w → switch_at w number ≡ Some s → number ≤ w.service.newest
+counted w number s core h =
+    let there : (0 < number) × At w.switches (number - 1) s = switch_there w.switches number s h in
+    let l : number - 1 < length w.switches = slice_get_within w.switches (number - 1) s there.1 in
+    let count : w.service.newest ≡ length w.switches = core.newest in
+    let above : 0 < number = there.0 in
+    omega arith
+
+pub numbered_started : (w : World) (e : Entry) → Core w → IsNumbered w.net e → IsSome (switch_at w e.stamp.switch)
+numbered_started w e core numbered = by_switch (switch_at w e.stamp.switch) refl
+  where
+    by_switch : (o : Option AbstractSwitch) → switch_at w e.stamp.switch ≡ o → IsSome o
+    by_switch None h = absurd (none-some e (subst (λ (l : List Entry). At l (e.stamp.seq - 1) e) (core.unstarted e.stamp.switch h) numbered.place))
+    by_switch (Some s) h = refl
