@@ -1,5 +1,5 @@
 ghost use Rattle.std.specs.Prelude.{◌≡◌};
-ghost use Rattle.hm_packet.specs.Fields.{fields, kind_name};
+ghost use Rattle.hm_packet.specs.Fields.{fields};
 
 use crate::body::Body;
 use arrayvec::ArrayVec;
@@ -29,33 +29,6 @@ pub enum Field {
 impl Default for Field {
     fn default() -> Field {
         Field::U32(0)
-    }
-}
-
-/// The name of a body's kind, in lower case.
-pub fn kind_name(body: &Body) -> &'static [u8]
-    ensures { result.now ≡ kind_name body.now }
-{
-    match body {
-        Body::Read(_) => b"read",
-        Body::Write(_) => b"write",
-        Body::Put(_) => b"put",
-        Body::FastRead(_) => b"fastread",
-        Body::NormalRead(_) => b"normalread",
-        Body::Done(_) => b"done",
-        Body::Reply(_) => b"reply",
-        Body::Feed(_) => b"feed",
-        Body::FeedAck(_) => b"feedack",
-        Body::Ask(_) => b"ask",
-        Body::Known(_) => b"known",
-        Body::StartViewChange(_) => b"startviewchange",
-        Body::Vote(_) => b"vote",
-        Body::Pull(_) => b"pull",
-        Body::Page(_) => b"page",
-        Body::Config(_) => b"config",
-        Body::Route(_) => b"route",
-        Body::Refuse(_) => b"refuse",
-        Body::Refused(_) => b"refused",
     }
 }
 

@@ -1,0 +1,9 @@
+mod Rows
+mod ChainRuns
+mod PrimaryRuns
+mod ViewstampedRuns
+mod ViewChangeRuns
+mod Packets
+mod PrimarySteps
+mod ViewstampedSteps
+mod ServiceSteps
