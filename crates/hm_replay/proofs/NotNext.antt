@@ -1,5 +1,5 @@
 -- Bytes that are outside the grammar, and that a schedule's bytes never are.
-use Rattle.std.proofs.Common.{◌≡◌, ◌≢◌, ℕ, ◌+◌, List, [], ◌∷◌, ◌++◌, Option, Some, None, refl, sym, ap, subst, ◌∙◌, append_assoc}
+use Rattle.std.proofs.Common.{◌≡◌, ◌≢◌, ℕ, ◌+◌, List, [], ◌∷◌, ◌++◌, length, Option, Some, None, refl, sym, ap, subst, ◌∙◌, append_assoc, arith}
 use Rattle.std.specs.Prelude.{fold, IfSome}
 use Rattle.hm_base.specs.Spellings.{spaced}
 use Rattle.hm_world.specs.declared.event.Event.TheVariants as event
@@ -125,6 +125,28 @@ nowhere stage (x ∷ xs) (l ∷ ls) rest come comes some same outside =
     (same ∙ append_assoc (line_bytes x) (lines_text xs) rest) in
     nowhere (after stage x) xs ls rest come.1 (subst (λ (t : Stage). ComeFrom t ls) (one_stage stage l x parts.0) comes.1)
     (λ fresh. absurd (behind_is_fresh stage (keyword_in x) (sym (after_is_behind stage x) ∙ fresh))) parts.1 outside
+
+-- bytes are lines that may come, and then outside the grammar, in one way as to how many lines
+behind_one : (stage : Stage) (begun others : List Line) (rest more : List ℕ) → ComeFrom stage begun → ComeFrom stage others → lines_text begun ++ rest ≡ lines_text others ++ more
+    → IsOutside (fold after stage begun) rest → IsOutside (fold after stage others) more → length begun ≡ length others
+behind_one stage [] [] rest more come comes same outside also = refl
+behind_one stage [] (l ∷ ls) rest more come comes same outside also =
+    absurd (goes_on stage rest (lines_text ls ++ more) l comes.0 outside (same ∙ append_assoc (line_bytes l) (lines_text ls) more))
+behind_one stage (x ∷ xs) [] rest more come comes same outside also =
+    absurd (goes_on stage more (lines_text xs ++ rest) x come.0 also (sym same ∙ append_assoc (line_bytes x) (lines_text xs) rest))
+behind_one stage (x ∷ xs) (l ∷ ls) rest more come comes same outside also =
+    let parts =
+    one_line (line_text x) (line_text l) (lines_text xs ++ rest) (lines_text ls ++ more) (lawful_line x come.0.0) (lawful_line l comes.0.0)
+    (sym (append_assoc (line_bytes x) (lines_text xs) rest) ∙ same ∙ append_assoc (line_bytes l) (lines_text ls) more) in
+    let here : after stage l ≡ after stage x = sym (one_stage stage x l parts.0) in
+    let others : length xs ≡ length ls =
+    behind_one (after stage x) xs ls rest more come.1 (subst (λ (t : Stage). ComeFrom t ls) here comes.1) parts.1 outside (subst (λ (t : Stage). IsOutside (fold after t ls) more) here also) in
+    omega arith
+
+-- bytes break off behind one number of lines
+pub breaks_once : (begun others : List Line) (bytes : List ℕ) → IsBegun begun → IsBegun others → BreaksOff begun bytes → BreaksOff others bytes → length begun ≡ length others
+breaks_once begun others bytes lawful also breaks off =
+    behind_one Stage.Fresh begun others breaks.rest off.rest lawful also (sym breaks.parts ∙ off.parts) breaks.outside off.outside
 
 -- a schedule's bytes break off nowhere
 pub breaks_nowhere : (begun lines : List Line) (left : Option (List ℕ)) → IsBegun begun → IsSchedule lines → left ≡ Some (lines_text lines) → IfSome left (BreaksOff begun) → ⊥

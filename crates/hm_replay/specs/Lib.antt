@@ -1,6 +1,6 @@
 pub mod Buffers
-pub mod Closings
 pub mod Fills
+pub mod Lawful
 pub mod Lines
 pub mod Nexts
 pub mod Openings

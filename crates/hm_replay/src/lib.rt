@@ -2,6 +2,7 @@
 #![tactic(auto)]
 
 mod events;
+mod law;
 pub mod lines;
 mod opening;
 mod reading;

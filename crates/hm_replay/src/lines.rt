@@ -1,10 +1,10 @@
-ghost use Rattle.std.specs.Prelude.{◌≡◌, ◌+◌, ◌-◌, ◌<◌, ◌≤◌, [], ◌++◌, length, take, drop, slice_range, vec_len, IfOk, IfSome, IfNone};
-ghost use Rattle.hm_frame.specs.Faults.{HasCause};
+ghost use Rattle.std.specs.Prelude.{◌≡◌, ◌+◌, ◌-◌, ◌<◌, ◌≤◌, [], ◌++◌, length, take, drop, slice_range, IfOk, IfSome, IfNone};
+ghost use Rattle.hm_outside.specs.Faults.{Counts};
 ghost use Rattle.hm_schedule.specs.LineTexts.{IsLine, ended};
 ghost use Rattle.hm_replay.specs.Fills.{Fills, filled_count};
 
 use hm_base::memory::NoMemory;
-use hm_frame::outside::{Failed, Source};
+use hm_outside::device::{Failed, Source, zeros};
 use memchr::memchr;
 use std::alloc::Global;
 use std::marker::Model;
@@ -84,7 +84,7 @@ impl LineReader {
     /// Finds the next line. Each call of the source asks for some kilobytes, and only where no whole line is ahead.
     pub fn next<S: Source>(&mut self, source: &mut S) -> Result<Found, Failed>
         ensures found { FindsOrFails result self.old.ahead self.new (S.left source.old) (S.left source.new) }
-        ensures cause { HasCause (S.faults source.old) (S.faults source.new) result }
+        ensures counted { Counts (S.faults source.old) (S.faults source.new) result }
     {
         loop {
             match self.cut() {
@@ -124,7 +124,7 @@ impl LineReader {
     fn fill<S: Source>(&mut self, source: &mut S) -> Result<usize, Failed>
         requires { length self.old.ahead ≤ max_line_len }
         ensures bytes { Fills result self.old.ahead self.new.ahead (S.left source.old) (S.left source.new) }
-        ensures cause { HasCause (S.faults source.old) (S.faults source.new) result }
+        ensures counted { Counts (S.faults source.old) (S.faults source.new) result }
     {
         let held = self.end - self.start;
         let result = refill(source, &mut self.buffer, self.start, self.end);
@@ -168,15 +168,8 @@ fn refill<S: Source>(
     requires within { end ≤ length buffer.old }
     ensures bytes { Fills result (slice_range buffer.old start end) (slice_range buffer.new 0 (end - start + filled_count result)) (S.left source.old) (S.left source.new) }
     ensures room { IfOk result (λ n. end - start + n ≤ length buffer.new) }
-    ensures cause { HasCause (S.faults source.old) (S.faults source.new) result }
+    ensures counted { Counts (S.faults source.old) (S.faults source.new) result }
 {
     buffer.copy_within(start..end, 0);
     source.take(&mut buffer[end - start..])
-}
-
-/// Zeros.
-fn zeros(alloc: Global, len: usize) -> Result<Vec<u8>, NoMemory>
-    ensures { IfOk result (λ bytes. vec_len bytes ≡ len) }
-{
-    Ok(vec![in alloc; 0u8; len]?)
 }

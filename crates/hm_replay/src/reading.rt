@@ -1,5 +1,5 @@
 ghost use Rattle.std.specs.Prelude.{◌≡◌, ◌≢◌, ◌++◌, [], ℕ, List, Some, IfOk, MatchResult};
-ghost use Rattle.hm_frame.specs.Faults.{HasCause};
+ghost use Rattle.hm_outside.specs.Faults.{Counts};
 ghost use Rattle.hm_schedule.specs.LineTexts.{IsLine};
 ghost use Rattle.hm_schedule.specs.Orders as orders;
 ghost use Rattle.hm_schedule.specs.Orders.{IsNext, line_bytes};
@@ -11,7 +11,7 @@ ghost use Rattle.hm_replay.specs.Nexts.{ComesOrFails, IsSpelledBy, EventComesOrF
 use crate::lines::{Found, LineReader};
 use crate::opening::Opening;
 use crate::stage::Stage;
-use hm_frame::outside::{Failed, Source};
+use hm_outside::device::{Failed, Source};
 use hm_schedule::line::{Line, LineReason, read_line};
 use hm_world::event::Event;
 
@@ -38,7 +38,7 @@ pub fn read_opening<S: Source>(
 ) -> Result<(Opening, NextEvent), Failed>
     requires { reader.old.ahead ≡ [] }
     ensures opens { OpensOrFails result reader.new.ahead (S.left source.old) (S.left source.new) }
-    ensures cause { HasCause (S.faults source.old) (S.faults source.new) result }
+    ensures counted { Counts (S.faults source.old) (S.faults source.new) result }
 {
     let mut opening = Opening::fresh();
     loop {
@@ -59,7 +59,7 @@ pub fn next_event<S: Source>(
     events: u32,
 ) -> Result<NextEvent, Failed>
     ensures next { EventComesOrFails result (orders.Stage.Running events) reader.old.ahead reader.new.ahead (S.left source.old) (S.left source.new) }
-    ensures cause { HasCause (S.faults source.old) (S.faults source.new) result }
+    ensures counted { Counts (S.faults source.old) (S.faults source.new) result }
 {
     match next_line(reader, source, Stage::Running(events)) {
         Ok(Next::Line(Line::Event(event))) => Ok(NextEvent::Event(event)),
@@ -83,7 +83,7 @@ fn next_line<S: Source>(
     // The end comes where nothing is left behind a line.
     ensures end { (bytes : List ℕ) → stage_at stage ≢ orders.Stage.Fresh → S.left source.old ≡ Some bytes → reader.old.ahead ++ bytes ≡ []
         → IfOk result (λ next. next ≡ Next.End) }
-    ensures cause { HasCause (S.faults source.old) (S.faults source.new) result }
+    ensures counted { Counts (S.faults source.old) (S.faults source.new) result }
 {
     match reader.next(source) {
         Ok(Found::Line) => Ok(spelled_by(reader.line(), stage)),

@@ -1,4 +1,4 @@
-ghost use Rattle.std.specs.Prelude.{◌≡◌, ◌≢◌, ◌≤◌, ◌⊎◌, ℕ, List, [], ◌∷◌, length, Some, codes, flat_map, map, string_bytes};
+ghost use Rattle.std.specs.Prelude.{◌≡◌, ◌≢◌, ◌+◌, ◌≤◌, ◌⊎◌, ℕ, List, [], ◌∷◌, length, Some, codes, flat_map, map, string_bytes};
 ghost use Rattle.std.specs.List.{AllByRecursion};
 ghost use Rattle.hm_packet.specs.Messages.{Message};
 ghost use Rattle.hm_codec.specs.Packets.{HasSpelling};
@@ -7,21 +7,23 @@ ghost use Rattle.hm_show.specs.Shows.{max_frames};
 ghost use Rattle.hm_order.specs.Order.{order};
 ghost use Rattle.hm_rules.specs.RunText.{order_text, bad_text};
 ghost use Rattle.hm_schedule.specs.Reasons.{reason_text};
-ghost use Rattle.hm_replay.specs.Closings.{Closes};
 ghost use Rattle.hm_replay.specs.Statuses.{Ends, EndsShow};
-ghost use Rattle.hm_frame.specs.Faults.{Rose};
-ghost use Rattle.hm_replay.specs.Replays.{IsWholeRun, IsBadRun, IsCutRun, IsPartialRun};
-ghost use Rattle.hm_schedule.specs.Orders.{IsSchedule, lines_text};
+ghost use Rattle.hm_outside.specs.Faults.{Rose};
+ghost use Rattle.hm_outside.specs.Puts.{Puts};
+ghost use Rattle.hm_replay.specs.Replays.{IsWholeRun, IsBadRun, BreaksOff};
+ghost use Rattle.hm_schedule.specs.Orders.{IsBegun, IsSchedule, lines_text};
 ghost use Rattle.hm_schedule.specs.declared.line.Line.{Line};
 ghost use Rattle.hm_schedule.specs.declared.line.LineReason.{LineReason};
 
 use crate::events::write_event;
+use crate::law::schedules_run_lawfully;
 use crate::lines::LineReader;
 use crate::reading::{NextEvent, next_event, read_opening};
 use crate::run_text::{write_bad, write_order};
-use crate::status::{Status, status_of};
+use crate::status::{Status, ended, status_of};
 use crate::words::is_word;
-use hm_frame::outside::{Sink, Source, put_all};
+use hm_outside::device::{NotPut, Sink, Source, put_all, put_closing};
+use hm_outside::law::calls_add_up;
 use hm_schedule::line::LineReason;
 use hm_show::show::show;
 use hm_world::world::World;
@@ -41,22 +43,29 @@ pub fn run<S: Source, K: Sink>(
     // BadWords comes exactly where the words are no command.
     ensures command { result ≢ Status.BadWords → (map string_bytes words.now ≡ codes "replay" ∷ []) ⊎ (map string_bytes words.now ≡ codes "show" ∷ []) }
     ensures no_command { (map string_bytes words.now ≡ codes "replay" ∷ []) ⊎ (map string_bytes words.now ≡ codes "show" ∷ []) → result ≢ Status.BadWords }
-    ensures no_limit { (line : ℕ) → map string_bytes words.now ≡ codes "replay" ∷ [] → result ≢ Status.TooLong line }
     ensures untouched { result ≡ Status.BadWords → (source.new ≡ source.old) × (sink.new ≡ sink.old) }
 
     // A fault comes only where the device's count rose in this call.
     ensures read_fault { result ≡ Status.ReadFault → Rose (S.faults source.old) (S.faults source.new) }
     ensures write_fault { result ≡ Status.WriteFault → Rose (K.faults sink.old) (K.faults sink.new) }
 
-    // What a replay read, and what it put.
+    // Every status that a replay ends with, and what it owes: no other comes.
+    ensures replay { map string_bytes words.now ≡ codes "replay" ∷ []
+        → Ends result (S.left source.old) (S.left source.new) (K.held sink.old) (K.held sink.new)
+        (record { read_before = S.faults source.old; read_after = S.faults source.new; put_before = K.faults sink.old; put_after = K.faults sink.new }) }
+
+    // A whole run: what it read and put, and that the order which it puts is lawful.
     ensures done { map string_bytes words.now ≡ codes "replay" ∷ [] → result ≡ Status.Done
         → IsWholeRun (S.left source.old) (S.left source.new) (K.held sink.old) (K.held sink.new) }
     ensures bad_line { (line : ℕ) → (reason : LineReason) → result ≡ Status.BadLine line reason
         → IsBadRun (S.left source.old) (K.held sink.old) (K.held sink.new) line reason }
-    ensures cut { map string_bytes words.now ≡ codes "replay" ∷ [] → result ≡ Status.ReadFault
-        → IsCutRun (S.left source.old) (S.left source.new) (K.held sink.old) (K.held sink.new) }
-    ensures partial { map string_bytes words.now ≡ codes "replay" ∷ [] → (result ≡ Status.WriteFault) ⊎ (result ≡ Status.NoMemory)
-        → IsPartialRun (S.left source.old) (S.left source.new) (K.held sink.old) (K.held sink.new) }
+
+    // BadLine comes wherever a source tells bytes that break off, and names the line there, unless a device fails or memory is wanting.
+    ensures breaks { (begun : List Line) → (bytes : List ℕ) → IsBegun begun → BreaksOff begun bytes → S.left source.old ≡ Some bytes
+        → map string_bytes words.now ≡ codes "replay" ∷ []
+        → (Rose (S.faults source.old) (S.faults source.new) → ⊥)
+        → (Rose (K.faults sink.old) (K.faults sink.new) → ⊥)
+        → (result ≡ Status.BadLine (length begun + 1) LineReason.Word) ⊎ (result ≡ Status.NoMemory) }
 
     // A schedule that is read without a fault, and whose text is put without one, is replayed whole, unless memory is wanting.
     ensures complete { (lines : List Line) → IsSchedule lines → S.left source.old ≡ Some (lines_text lines)
@@ -65,7 +74,7 @@ pub fn run<S: Source, K: Sink>(
         → (Rose (K.faults sink.old) (K.faults sink.new) → ⊥)
         → (result ≡ Status.Done) ⊎ (result ≡ Status.NoMemory) }
 
-    // What a show read, and what it put.
+    // Every status that a show ends with, and what it read and put then: no other comes.
     ensures show { map string_bytes words.now ≡ codes "show" ∷ []
         → EndsShow result (S.left source.old) (S.left source.new) (K.held sink.old) (K.held sink.new)
         (record { read_before = S.faults source.old; read_after = S.faults source.new; put_before = K.faults sink.old; put_after = K.faults sink.new }) }
@@ -89,6 +98,8 @@ fn replay<S: Source, K: Sink>(alloc: Global, source: &mut S, sink: &mut K) -> St
     ensures { Ends result (S.left source.old) (S.left source.new) (K.held sink.old) (K.held sink.new)
         (record { read_before = S.faults source.old; read_after = S.faults source.new; put_before = K.faults sink.old; put_after = K.faults sink.new }) }
 {
+    calls_add_up();
+    schedules_run_lawfully();
     let Ok(mut reader) = LineReader::open(alloc) else {
         return Status::NoMemory;
     };
@@ -112,9 +123,13 @@ fn replay<S: Source, K: Sink>(alloc: Global, source: &mut S, sink: &mut K) -> St
                     Err(_) => return Status::WriteFault,
                 }
             }
-            NextEvent::End => return finish(alloc, &world, &mut text, sink),
+            NextEvent::End => {
+                return ended(finish(alloc, &world, &mut text, sink), Status::Done);
+            }
             NextEvent::Bad(reason) => {
-                return refuse(opening.lines + world.events() + 1, reason, &mut text, sink);
+                let line = opening.lines + world.events() + 1;
+                let closed = refuse(line, reason, &mut text, sink);
+                return ended(closed, Status::BadLine { line, reason });
             }
         }
         next = match next_event(&mut reader, source, world.events()) {
@@ -125,36 +140,36 @@ fn replay<S: Source, K: Sink>(alloc: Global, source: &mut S, sink: &mut K) -> St
 }
 
 /// Writes the order of the operations, which ends the text of a whole run.
-fn finish<K: Sink>(alloc: Global, world: &World, text: &mut Vec<u8>, sink: &mut K) -> Status
-    ensures { Closes result Status.Done (order_text (order world.now.world.history)) (K.held sink.old) (K.held sink.new) (K.faults sink.old) (K.faults sink.new) }
+fn finish<K: Sink>(
+    alloc: Global,
+    world: &World,
+    text: &mut Vec<u8>,
+    sink: &mut K,
+) -> Result<(), NotPut>
+    ensures { Puts result (order_text (order world.now.world.history)) (K.held sink.old) (K.held sink.new) (K.faults sink.old) (K.faults sink.new) }
 {
     let Ok(ops) = world.history().order(alloc) else {
-        return Status::NoMemory;
+        return Err(NotPut::NoMemory);
     };
     text.clear();
     match write_order(&ops, text) {
-        Ok(()) => put_closing(text, Status::Done, sink),
-        Err(_) => Status::NoMemory,
+        Ok(()) => put_closing(sink, text),
+        Err(_) => Err(NotPut::NoMemory),
     }
 }
 
 /// Writes the number of the line that is outside the grammar, counted from 1, which ends the text where the schedule breaks off.
-fn refuse<K: Sink>(line: u32, reason: LineReason, text: &mut Vec<u8>, sink: &mut K) -> Status
-    ensures { Closes result (Status.BadLine line reason) (bad_text line (reason_text reason)) (K.held sink.old) (K.held sink.new) (K.faults sink.old) (K.faults sink.new) }
+fn refuse<K: Sink>(
+    line: u32,
+    reason: LineReason,
+    text: &mut Vec<u8>,
+    sink: &mut K,
+) -> Result<(), NotPut>
+    ensures { Puts result (bad_text line (reason_text reason)) (K.held sink.old) (K.held sink.new) (K.faults sink.old) (K.faults sink.new) }
 {
     text.clear();
     match write_bad(line, reason, text) {
-        Ok(()) => put_closing(text, Status::BadLine { line, reason }, sink),
-        Err(_) => Status::NoMemory,
-    }
-}
-
-/// Puts the end of the text. The status is this one where all of it was put.
-fn put_closing<K: Sink>(text: &[u8], whole: Status, sink: &mut K) -> Status
-    ensures { Closes result whole text.now (K.held sink.old) (K.held sink.new) (K.faults sink.old) (K.faults sink.new) }
-{
-    match put_all(sink, text) {
-        Ok(()) => whole,
-        Err(_) => Status::WriteFault,
+        Ok(()) => put_closing(sink, text),
+        Err(_) => Err(NotPut::NoMemory),
     }
 }

@@ -1,10 +1,10 @@
 use crate::replay::run;
 use crate::rows::ROWS;
 use crate::status::Status;
-use hm_frame::adapters::{ReaderSource, WriterSink};
-use hm_frame::memory::{MemorySink, MemorySource};
-use hm_frame::outside::Source;
-use hm_frame::sure::{SureSink, SureSource};
+use hm_outside::adapters::{ReaderSource, WriterSink};
+use hm_outside::memory::{MemorySink, MemorySource};
+use hm_outside::device::Source;
+use hm_outside::sure::{SureSink, SureSource};
 use std::alloc::{AllocError, Global};
 use std::io;
 use std::io::Read;

@@ -1,8 +1,8 @@
 use crate::show::{MAX_FRAMES, Shown, show};
 use hm_codec::malformed::{Malformed, Reason};
-use hm_frame::memory::{MemorySink, MemorySource};
-use hm_frame::outside::{Failed, Source};
-use hm_frame::sure::{SureSink, SureSource};
+use hm_outside::memory::{MemorySink, MemorySource};
+use hm_outside::device::{Failed, Source};
+use hm_outside::sure::{SureSink, SureSource};
 use std::alloc::Global;
 use std::test::Fail;
 

@@ -1,4 +1,4 @@
-use Rattle.std.proofs.Common.{◌≤◌, ◌-◌}
+use Rattle.std.proofs.Common.{◌≡◌, ◌-◌}
 use Rattle.hm_replay.specs.Openings.{opening_bound, max_opening}
 use Rattle.hm_replay.specs.Stages.{stage_at}
 use Rattle.hm_replay.proofs.Progress.{Opened}
@@ -7,7 +7,7 @@ use Rattle.hm_replay.proofs.reading.read_opening.Given as goal
 abbrev pub invariant-loop-event : goal.invariant-loop-event
 invariant-loop-event g l = record {
   opened : Opened l.opening l.reader.ahead (g.S.Source.left l.fn.source) (g.S.Source.left l.source);
-  later : g.S.Source.faults l.fn.source ≤ g.S.Source.faults l.source;
+  counted : g.S.Source.faults l.source ≡ g.S.Source.faults l.fn.source;
 }
 
 abbrev pub decreases-loop-event : goal.decreases-loop-event

@@ -1,7 +1,7 @@
 -- Adapters of std's readers and writers.
 use Rattle.std.specs.Prelude.{ℕ}
-use Rattle.hm_frame.specs.declared.adapters.ReaderSource.{ReaderSource}
-use Rattle.hm_frame.specs.declared.adapters.WriterSink.{WriterSink}
+use Rattle.hm_outside.specs.declared.adapters.ReaderSource.{ReaderSource}
+use Rattle.hm_outside.specs.declared.adapters.WriterSink.{WriterSink}
 
 abbrev pub source_reader : {R : Type 0} → ReaderSource R → R
 source_reader s = s.reader

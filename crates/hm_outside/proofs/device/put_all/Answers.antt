@@ -1,18 +1,16 @@
-use Rattle.std.proofs.Common.{◌≤◌, ◌-◌, take, length, drop, arith, subst, List, ℕ}
+use Rattle.std.proofs.Common.{◌≤◌, ◌-◌, ◌∙◌, take, length, drop, arith, subst, List, ℕ}
 use Rattle.std.proofs.lemmas.List.{length-drop, length-take, take_all}
 use Rattle.std.specs.Io.KnownBytes.{Appends}
-use Rattle.hm_frame.proofs.KnownBytes.{put_more, put_part}
-use Rattle.hm_frame.proofs.outside.put_all.Goals as goal
+use Rattle.hm_outside.proofs.KnownBytes.{put_more, put_part}
+use Rattle.hm_outside.proofs.device.put_all.Goals as goal
 
 pub loop-at-preserved : goal.loop-at-preserved
 loop-at-preserved g c =
     let bound : c.in-Ok.count ≤ length (take (length c.args.text.now - c.loop-at.at) (drop c.loop-at.at c.args.text.now)) = c.in-Ok.ensures.bound in
-    let first : g.K.Sink.faults c.args.sink.now ≤ g.K.Sink.faults c.loop-at.sink = c.loop-at.invariant.later in
-    let second : g.K.Sink.faults c.loop-at.sink ≤ g.K.Sink.faults c.put.new.self = c.in-Ok.ensures.cause.later in
     record {
       within = omega (arith, length-take (length c.args.text.now - c.loop-at.at) (drop c.loop-at.at c.args.text.now), length-drop c.loop-at.at c.args.text.now);
       put = put_more _ _ _ c.args.text.now c.loop-at.at c.in-Ok.count c.loop-at.invariant.put c.in-Ok.ensures.bytes;
-      later = omega arith;
+      counted = c.in-Ok.ensures.counted ∙ c.loop-at.invariant.counted;
     }
 
 pub returns-in-Err-clause-err : goal.returns-in-Err-clause-err

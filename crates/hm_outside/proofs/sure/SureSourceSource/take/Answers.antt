@@ -1,5 +1,5 @@
-use Rattle.hm_frame.proofs.Copied.{fills_from}
-use Rattle.hm_frame.proofs.sure.SureSourceSource.take.Goals as goal
+use Rattle.hm_outside.proofs.Copied.{fills_from}
+use Rattle.hm_outside.proofs.sure.SureSourceSource.take.Goals as goal
 
 pub returns-clause-bytes : goal.returns-clause-bytes
 returns-clause-bytes c =

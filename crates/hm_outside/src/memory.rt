@@ -1,9 +1,9 @@
 ghost use Rattle.std.specs.Prelude.{◌≡◌, ◌+◌, ◌-◌, ◌<◌, ◌≤◌, ◌↔◌, ◌⊎◌, [], ◌++◌, Some, Contains, IsErr, IfOk, Ok, length, take, drop, min};
 ghost use Rattle.std.specs.Io.{ReadsAtMost};
 ghost use Rattle.std.specs.Io.KnownBytes.{ReadConsumes, WriteAppends};
-ghost use Rattle.hm_frame.specs.Faults.{HasCause, one_more};
+ghost use Rattle.hm_outside.specs.Faults.{Counts, one_more};
 
-use crate::outside::{Failed, Sink, Source};
+use crate::device::{Failed, Sink, Source};
 use hm_base::memory::NoMemory;
 use std::alloc::Global;
 use std::marker::Model;
@@ -30,7 +30,7 @@ pub struct MemorySource {
 
 impl Model for MemorySource {
     ghost use Rattle.std.specs.Prelude.{◌≤◌, drop, length};
-    ghost use Rattle.hm_frame.specs.Ends.{Supply};
+    ghost use Rattle.hm_outside.specs.Ends.{Supply};
 
     ghost Value = { Supply };
 
@@ -62,7 +62,9 @@ impl Source for MemorySource {
     fn take(&mut self, buf: &mut [u8]) -> Result<usize, Failed>
         ensures bound { ReadsAtMost result buf.new }
         ensures bytes { ReadConsumes (Some self.old.left) (Some self.new.left) result buf.new }
-        ensures cause { HasCause self.old.faults self.new.faults result }
+        ensures counted { Counts self.old.faults self.new.faults result }
+        ensures calls { self.new.calls ≡ one_more self.old.calls }
+        ensures fails { self.new.fails ≡ self.old.fails }
         ensures listed { IsErr result ↔ Contains self.old.fails (one_more self.old.calls) }
     {
         self.calls = self.calls.saturating_add(1);
@@ -89,7 +91,7 @@ pub struct MemorySink {
 
 impl Model for MemorySink {
     ghost use Rattle.std.specs.Prelude.{◌≤◌, length, vec_capacity};
-    ghost use Rattle.hm_frame.specs.Ends.{Store};
+    ghost use Rattle.hm_outside.specs.Ends.{Store};
 
     ghost Value = { Store };
 
@@ -130,8 +132,11 @@ impl Sink for MemorySink {
         ensures bound { IfOk result (λ n. n ≤ length piece.now) }
         ensures some { IfOk result (λ n. 0 < length piece.now → 0 < n) }
         ensures bytes { WriteAppends (Some self.old.held) (Some self.new.held) result piece.now }
-        ensures cause { HasCause self.old.faults self.new.faults result }
+        ensures counted { Counts self.old.faults self.new.faults result }
         ensures whole { IfOk result (λ n. n ≡ length piece.now) }
+        ensures calls { self.new.calls ≡ one_more self.old.calls }
+        ensures fails { self.new.fails ≡ self.old.fails }
+        ensures room { self.new.room ≡ self.old.room }
         ensures listed { IsErr result ↔ (Contains self.old.fails (one_more self.old.calls) ⊎ (self.old.room < length self.old.held + length piece.now)) }
     {
         self.calls = self.calls.saturating_add(1);

@@ -1,6 +1,6 @@
 ghost use Rattle.std.specs.Prelude.{◌≡◌};
 
-use crate::outside::{Failed, Sink, Source};
+use crate::device::{Failed, Sink, Source};
 use std::io::{Read, Write};
 
 /// A reader of std as a source. It tells what the reader tells.
@@ -11,7 +11,7 @@ pub struct ReaderSource<R: Drop> {
 }
 
 impl<R: Read + Drop> ReaderSource<R> {
-    ghost use Rattle.hm_frame.specs.Adapters.{source_reader, source_faults};
+    ghost use Rattle.hm_outside.specs.Adapters.{source_reader, source_faults};
 
     /// The reader, with no fault so far. It takes no memory.
     pub fn new(reader: R) -> Self
@@ -23,7 +23,7 @@ impl<R: Read + Drop> ReaderSource<R> {
 }
 
 impl<R: Read + Drop> Source for ReaderSource<R> {
-    ghost use Rattle.hm_frame.specs.Adapters.{source_reader, source_faults};
+    ghost use Rattle.hm_outside.specs.Adapters.{source_reader, source_faults};
 
     ghost left = { λ s. R.remaining (source_reader s) };
 
@@ -48,7 +48,7 @@ pub struct WriterSink<W: Drop> {
 }
 
 impl<W: Write + Drop> WriterSink<W> {
-    ghost use Rattle.hm_frame.specs.Adapters.{sink_writer, sink_faults};
+    ghost use Rattle.hm_outside.specs.Adapters.{sink_writer, sink_faults};
 
     /// The writer, with no fault so far. It takes no memory.
     pub fn new(writer: W) -> Self
@@ -67,7 +67,7 @@ impl<W: Write + Drop> WriterSink<W> {
 }
 
 impl<W: Write + Drop> Sink for WriterSink<W> {
-    ghost use Rattle.hm_frame.specs.Adapters.{sink_writer, sink_faults};
+    ghost use Rattle.hm_outside.specs.Adapters.{sink_writer, sink_faults};
 
     ghost held = { λ s. W.contents (sink_writer s) };
 

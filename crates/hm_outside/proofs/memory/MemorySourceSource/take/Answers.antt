@@ -1,7 +1,7 @@
 use Rattle.std.proofs.Common.{ap}
-use Rattle.hm_frame.proofs.Copied.{fills_from}
-use Rattle.hm_frame.specs.Ends.{Supply}
-use Rattle.hm_frame.proofs.memory.MemorySourceSource.take.Goals as goal
+use Rattle.hm_outside.proofs.Copied.{fills_from}
+use Rattle.hm_outside.specs.Ends.{Supply}
+use Rattle.hm_outside.proofs.memory.MemorySourceSource.take.Goals as goal
 
 pub returns-clause-bytes : goal.returns-clause-bytes
 returns-clause-bytes c =

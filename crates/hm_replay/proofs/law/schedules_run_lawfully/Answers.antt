@@ -1,0 +1,38 @@
+use Rattle.std.proofs.Common.{◌≡◌, ◌≢◌, ◌≤◌, ◌<◌, ◌^◌, ℕ, List, length, arith}
+use Rattle.std.specs.Prelude.{All}
+use Rattle.std.proofs.lemmas.List.Elements.{All-from_recursion}
+use Rattle.hm_base.specs.declared.node.GroupKind.TheVariants as kind
+use Rattle.hm_rules.specs.Events.{Setup}
+use Rattle.hm_group_laws.specs.Groups.{CanForm}
+use Rattle.hm_world.specs.Declares.{max_events}
+use Rattle.hm_schedule.specs.Orders.{IsBegun, setup_in, events_in}
+use Rattle.hm_schedule.specs.Reasons.{reason_text}
+use Rattle.hm_schedule.specs.declared.line.Line.{Line}
+use Rattle.hm_schedule.specs.declared.line.LineReason.TheVariants.{Word}
+use Rattle.hm_replay.specs.Replays.{full_in}
+use Rattle.hm_replay.proofs.LinePushes.{few_in, setup_is_chain}
+use Rattle.hm_replay.proofs.law.schedules_run_lawfully.Goals as goal
+
+few_events : (lines : List Line) → IsBegun lines → length (events_in lines) < 2 ^ 32
+few_events lines begun = let few : length (events_in lines) ≤ max_events = few_in lines begun in omega arith
+
+word_goes_on : All (λ (byte : ℕ). byte ≢ 10) (reason_text Word)
+word_goes_on = All-from_recursion (λ (byte : ℕ). byte ≢ 10) (reason_text Word) ((λ same. omega arith), (λ same. omega arith), (λ same. omega arith), (λ same. omega arith), tt)
+
+chain_forms : (setup : Setup) → setup.kind ≡ kind.Chain → CanForm setup
+chain_forms setup chain other = cc
+
+can_form : (lines : List Line) → IsBegun lines → CanForm (setup_in lines)
+can_form lines begun = chain_forms (setup_in lines) (setup_is_chain lines begun)
+
+pub returns : goal.returns
+returns c = record {
+  world = λ lines. c.full_events_are_the_refusals.ensures.world (setup_in lines) (events_in lines);
+  text = λ lines. c.full_events_are_the_refusals.ensures.text (setup_in lines) (events_in lines);
+  one_more = c.slotted_run_goes_on.ensures.world;
+  text_more = λ s es e. c.slotted_run_goes_on.ensures.text 1 s es e;
+  shown_whole = λ lines begun. c.texts_show_their_refusals.ensures.whole (setup_in lines) (events_in lines) (few_events lines begun);
+  shown_cut = λ lines begun. c.texts_show_their_refusals.ensures.cut (setup_in lines) (events_in lines) (few_events lines begun);
+  shown_bad = λ lines number begun. c.texts_show_their_refusals.ensures.bad (setup_in lines) (events_in lines) number (reason_text Word) (few_events lines begun) word_goes_on;
+  legal = λ lines begun. c.every_group_is_linearizable.ensures.legal (setup_in lines) (events_in lines) (full_in lines) (can_form lines begun);
+}
