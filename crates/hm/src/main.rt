@@ -1,7 +1,7 @@
 //! `hm replay`: reads a schedule from standard input, and writes the text of its run to standard output.
 #![tactic(auto)]
 
-use hm_frame::adapters::{ReaderSource, WriterSink};
+use hm_outside::adapters::{ReaderSource, WriterSink};
 use hm_replay::replay::run;
 use hm_replay::status::Status;
 use std::env;

@@ -37,10 +37,14 @@ write_over object before e = if e.object == object then written before e.stamp e
 abbrev pub last_write : List Entry → ℕ → Option (Stamp × List ℕ)
 last_write log object = fold (write_over object) None log
 
+-- what a read answers that finds this value
+abbrev pub found : List ℕ → Answer
+found value = Found value
+
 -- what a read answers where this is the last write of its object: version and answer, 0.0 and Nothing for none
 abbrev pub reply_of : Option (Stamp × List ℕ) → Stamp × Answer
 reply_of None = (least, Nothing)
-reply_of (Some write) = (write.0, Found write.1)
+reply_of (Some write) = (write.0, found write.1)
 
 -- version and answer of a read of the object that sees the whole log
 abbrev pub latest : List Entry → ℕ → Stamp × Answer

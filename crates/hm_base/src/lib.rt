@@ -12,8 +12,6 @@ pub mod room;
 pub mod spelling;
 pub mod stamp;
 pub mod steps;
-#[cfg(test)]
-mod tests;
 pub mod text;
 pub mod value;
 pub mod verdict;

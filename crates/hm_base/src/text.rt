@@ -1,5 +1,6 @@
-ghost use Rattle.std.specs.Prelude.{◌≡◌, ◌∷◌, ◌++◌, decimal, OnOk, OnErr};
+ghost use Rattle.std.specs.Prelude.{◌≡◌, ◌≤◌, ◌∷◌, ◌++◌, length, decimal, OnOk, OnErr};
 ghost use Rattle.hm_base.specs.Lists.{IsPrefix};
+ghost use Rattle.hm_base.specs.Padded.{max_value_len};
 ghost use Rattle.hm_base.specs.Spellings.{dotted, value_text, act_text, answer_text, stamp_text, op_text, node_text};
 
 use crate::entry::Act;
@@ -77,7 +78,15 @@ pub fn write_value(value: &Value, out: &mut Vec<u8>) -> Result<(), NoMemory>
     ensures ok { OnOk result (out.new.items ≡ out.old.items ++ value_text value.now) }
     ensures err { OnErr result (out.new.items ≡ out.old.items) }
 {
-    let bytes = value.as_slice();
+    write_value_bytes(value.as_slice(), out)
+}
+
+/// Appends the text of a value of these bytes.
+pub fn write_value_bytes(bytes: &[u8], out: &mut Vec<u8>) -> Result<(), NoMemory>
+    requires { length bytes.now ≤ max_value_len }
+    ensures ok { OnOk result (out.new.items ≡ out.old.items ++ value_text bytes.now) }
+    ensures err { OnErr result (out.new.items ≡ out.old.items) }
+{
     if bytes.is_empty() {
         return write_bytes(b"empty", out);
     }

@@ -3,5 +3,3 @@
 
 pub mod chain;
 mod neighbours;
-#[cfg(test)]
-mod tests;

@@ -1,5 +1,5 @@
--- Every event leaves a chain sound.
-use Rattle.std.proofs.Common.{◌≡◌, ℕ, ◌≤◌, Bool, true, false, List, sym, ap, subst, ◌∙◌, inl, inr, arith}
+-- What holds of a chain goes on holding, and each step that a live replica may take is as it is owed.
+use Rattle.std.proofs.Common.{◌≡◌, ℕ, ◌≤◌, true, false, List, sym, ap, subst, ◌∙◌, inl, inr, arith}
 use Rattle.std.specs.Prelude.{slice_set}
 use Rattle.std.proofs.lemmas.Bool.{false≢true, eqb-true}
 use Rattle.std.proofs.lemmas.List.Elements.{All-append}
@@ -7,7 +7,7 @@ use Rattle.hm_base.specs.declared.entry.Entry.{Entry}
 use Rattle.hm_base.specs.declared.node.GroupKind.{GroupKind}
 use Rattle.hm_base.specs.declared.node.GroupKind.TheVariants.{Chain}
 use Rattle.hm_base.specs.Lists.{IsPrefix, IsIn}
-use Rattle.hm_base.proofs.ListLaws.{prefix_same, prefix_then, each_in}
+use Rattle.hm_base.proofs.ListLaws.{prefix_same, prefix_then, each_in, set_at}
 use Rattle.hm_packet.specs.declared.acted.Did.TheVariants as did
 use Rattle.hm_packet.specs.Messages.{Message}
 use Rattle.hm_order.specs.Marks.{At}
@@ -15,18 +15,14 @@ use Rattle.hm_rules.specs.Replica.{Replica, last_member}
 use Rattle.hm_rules.specs.ReplicaSteps.{Stepped}
 use Rattle.hm_rules.specs.Chain.{is_tail}
 use Rattle.hm_rules.specs.Service.{is_fixed}
-use Rattle.hm_rules.specs.Events.{Event}
 use Rattle.hm_rules.specs.World.{World, is_stopped}
 use Rattle.hm_rules.specs.Deliveries.{replica_step, replica_tick, stepped}
-use Rattle.hm_rules.specs.Happens.{happens}
 use Rattle.hm_core_laws.specs.Packets.{Holds}
+use Rattle.hm_core_laws.specs.Core.{Core}
 use Rattle.hm_core_laws.specs.Changes.{Origin, IsStep, Change}
 use Rattle.hm_core_laws.specs.Owed.{declared_by, StepsSound}
-use Rattle.hm_core_laws.proofs.Changes.{changes}
-use Rattle.hm_core_laws.proofs.ListSteps.{set_at}
 use Rattle.hm_core_laws.proofs.EpochSteps.{epochs_stepped}
-use Rattle.hm_core_laws.proofs.CoreEvents.{core_happens}
-use Rattle.hm_chain_laws.specs.Chained.{MemberHolds, Fits, ChainHolds, IsSound}
+use Rattle.hm_chain_laws.specs.Chained.{MemberHolds, Fits, ChainHolds}
 use Rattle.hm_core_laws.proofs.Members.{last_greatest}
 use Rattle.hm_chain_laws.proofs.ChainParts.{Acts, MemberStep}
 use Rattle.hm_chain_laws.proofs.ChainReads.{ticks}
@@ -34,10 +30,7 @@ use Rattle.hm_chain_laws.proofs.ChainRows.{arrives}
 use Rattle.hm_chain_laws.proofs.ChainLater.{LogsGrow, all_fit_later, member_later}
 use Rattle.hm_chain_laws.proofs.ChainGroups.{after_quiet, after_removal}
 
-module _ (w : World) (sound : IsSound w) where
-  abbrev chain : ChainHolds w
-  chain = sound.chain
-
+module _ (w : World) (core : Core w) (chain : ChainHolds w) where
   -- a live replica isn't behind the last member of any epoch
   not_behind : (i : ℕ) (x : Replica) → At w.replicas i x → is_stopped w i ≡ false → (r : Replica) → At chain.epochs r.view r.members → i ≤ last_member r
   not_behind i x at live r epoch = last_greatest 0 r.members i (chain.groups.rise r.view r.members epoch) (chain.groups.live i x r.view r.members at live epoch)
@@ -45,7 +38,7 @@ module _ (w : World) (sound : IsSound w) where
   -- ---- the steps of this world
 
   abbrev acting : (n : ℕ) (s : Stepped) (x : IsStep w n s) → Acts w n x.replica
-  acting n s x = record { core = sound.core; chain = chain; there = x.there; live = x.live }
+  acting n s x = record { core = core; chain = chain; there = x.there; live = x.live }
 
   arrived : (n : ℕ) (r : Replica) (a : Acts w n r) (m : Message) → IsIn m w.net → Fits a.chain.epochs w.replicas m → (k : GroupKind) → k ≡ Chain → (replica_step k r m).did ≡ did.Done → MemberStep w n r a (replica_step k r m)
   arrived n r a m i fits k e = subst (λ (k : GroupKind). (replica_step k r m).did ≡ did.Done → MemberStep w n r a (replica_step k r m)) (sym e)
@@ -136,10 +129,7 @@ module _ (w : World) (sound : IsSound w) where
 
   -- ---- after any event
 
-  chain_after : (new : World) → Change w new → ChainHolds new
+  pub chain_after : (new : World) → Change w new → ChainHolds new
   chain_after new (Change.Quiet q) = after_quiet w chain new q
   chain_after new (Change.Step n s x e) = subst ChainHolds (sym e) (after_step n s x (member_step n s x) new.cursor)
   chain_after new (Change.Removal n x) = subst ChainHolds (sym x.after) (after_removal w chain n x.stopped)
-
-  pub sound_happens : (e : Event) (refuse : Bool) → IsSound (happens w e refuse).world
-  sound_happens e refuse = record { core = core_happens w e refuse sound.core steps_sound; chain = chain_after (happens w e refuse).world (changes w e refuse) }

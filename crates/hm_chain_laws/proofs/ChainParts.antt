@@ -11,7 +11,7 @@ use Rattle.hm_base.specs.declared.entry.Act.TheVariants as act
 use Rattle.hm_base.specs.Lists.{IsPrefix}
 use Rattle.hm_base.specs.Logs.{max_page_len, page}
 use Rattle.hm_base.specs.Taking.{held}
-use Rattle.hm_base.proofs.ListLaws.{prefix_same, prefix_append, prefix_then, prefix_take, prefix-take, prefix_equal, slice_cut, slice_later}
+use Rattle.hm_base.proofs.ListLaws.{prefix_same, prefix_append, prefix_then, prefix_take, prefix-take, prefix_equal, slice_cut, slice_later, set_at, each_from_at}
 use Rattle.hm_packet.specs.Messages.{Message}
 use Rattle.hm_order.specs.declared.mark.Mark.{Mark}
 use Rattle.hm_order.specs.Marks.{At}
@@ -30,8 +30,7 @@ use Rattle.hm_core_laws.specs.Core.{ListHolds, Core}
 use Rattle.hm_core_laws.specs.Owed.{declared_by, StepSound}
 use Rattle.hm_core_laws.proofs.Sources.{all_sourced_later}
 use Rattle.hm_core_laws.proofs.CoreGrows.{agrees}
-use Rattle.hm_core_laws.proofs.ListSteps.{set_at}
-use Rattle.hm_core_laws.proofs.StepParts.{nothing_declared, quiet_sound, answers_hold, answers_sent, all_from_at}
+use Rattle.hm_core_laws.proofs.StepParts.{nothing_declared, quiet_sound, answers_hold, answers_sent}
 use Rattle.hm_chain_laws.specs.Kept.{KeepsLog}
 use Rattle.hm_core_laws.specs.Epochs.{HasMember}
 use Rattle.hm_chain_laws.specs.Chained.{MemberHolds, IsPageOf, Fits, ChainHolds}
@@ -184,7 +183,7 @@ module _ (w : World) (n : ℕ) (r : Replica) (a : Acts w n r) where
 
       answers_fit : All (Fits a.chain.epochs (slice_set w.replicas n (record new { known = len new }))) (answers (record new { known = len new }) from (len new))
       answers_fit = All-map (Fits a.chain.epochs (slice_set w.replicas n (record new { known = len new }))) (answer_entry (record new { known = len new })) (drop (max from (len new - max_answered)) (take (len new) new.log))
-          (all_from_at (λ (e : Entry). Fits a.chain.epochs (slice_set w.replicas n (record new { known = len new })) (answer_entry (record new { known = len new }) e)) (drop (max from (len new - max_answered)) (take (len new) new.log)) (λ i e at. entry_fits e e.act))
+          (each_from_at (λ (e : Entry). Fits a.chain.epochs (slice_set w.replicas n (record new { known = len new })) (answer_entry (record new { known = len new }) e)) (drop (max from (len new - max_answered)) (take (len new) new.log)) (λ i e at. entry_fits e e.act))
         where
           entry_fits : (e : Entry) (x : Act) → Fits a.chain.epochs (slice_set w.replicas n (record new { known = len new })) (answer_act (record new { known = len new }) e x)
           entry_fits e (act.Put value) = tt

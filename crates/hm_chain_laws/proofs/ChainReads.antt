@@ -23,9 +23,9 @@ use Rattle.hm_packet.specs.declared.body.Ask.{Ask}
 use Rattle.hm_packet.specs.declared.body.Refuse.{Refuse}
 use Rattle.hm_packet.specs.Messages.{Message}
 use Rattle.hm_order.specs.declared.mark.Want.TheVariants as want
-use Rattle.hm_order.specs.Marks.{At, want_of}
+use Rattle.hm_order.specs.Marks.{At, want_of, op_of}
 use Rattle.hm_order.proofs.Growth.{want_invoked}
-use Rattle.hm_due_law.specs.Declared.{op_of, wanted}
+use Rattle.hm_due_law.specs.Declared.{wanted}
 use Rattle.hm_due_law.specs.Answers.{IsDueNow, IsFresh}
 use Rattle.hm_due_law.proofs.ReadAnswers.{whole_due, ahead_due}
 use Rattle.hm_rules.specs.Replica.{Replica, first_member, last_member}

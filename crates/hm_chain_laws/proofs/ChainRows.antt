@@ -19,7 +19,7 @@ use Rattle.hm_base.specs.Logs.{is_write, end_stamp, read_ahead}
 use Rattle.hm_base.specs.Stamps.{◌≺◌}
 use Rattle.hm_base.specs.Taking.{Took, Taken, extended, grown, take_page}
 use Rattle.hm_base.specs.Verdicts.{judge, admission}
-use Rattle.hm_base.proofs.ListLaws.{prefix_same, prefix_append, prefix-length, prefix_equal, taken_page}
+use Rattle.hm_base.proofs.ListLaws.{prefix_same, prefix_append, prefix-length, prefix_equal, taken_page, there_is, All-prefix}
 use Rattle.hm_packet.specs.declared.acted.Did.TheVariants as did
 use Rattle.hm_packet.specs.declared.body.Body.{Body}
 use Rattle.hm_packet.specs.declared.body.Body.TheVariants as body
@@ -40,7 +40,6 @@ use Rattle.hm_core_laws.specs.Sourced.{IsSourced}
 use Rattle.hm_core_laws.specs.Packets.{BodyHolds, Holds}
 use Rattle.hm_core_laws.specs.Core.{ReplicaHolds}
 use Rattle.hm_core_laws.specs.Epochs.{HasMember}
-use Rattle.hm_core_laws.proofs.ListSteps.{there_is, All-prefix}
 use Rattle.hm_chain_laws.specs.Chained.{MemberHolds, IsPageOf, PageFits, BodyFits, Fits}
 use Rattle.hm_core_laws.proofs.Members.{first_least, IsBefore, before_is}
 use Rattle.hm_chain_laws.proofs.ChainParts.{Acts, Becomes, Sends, IsFree, free_none, sends_none, sends_one, passing, silently, declaring, growing}

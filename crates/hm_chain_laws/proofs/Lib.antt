@@ -1,8 +1,9 @@
-pub mod LogGrowth
+mod LogGrowth
 mod ChainParts
 mod ChainReads
 mod ChainRows
 mod ChainLater
 mod ChainGroups
-pub mod ChainEvents
+mod ChainEvents
+mod ChainOpens
 pub mod ChainRuns

@@ -1,12 +1,2 @@
-pub mod GrammarLaws
-pub mod Readers
-pub mod PartReaders
-pub mod BodyReaders
-pub mod PacketReader
-pub mod Loops
-pub mod Lengths
-pub mod Decoded
-pub mod Writers
-pub mod Unread
-pub mod Told
-pub mod PageWords
+mod Writers
+mod Decoded

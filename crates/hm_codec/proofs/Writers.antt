@@ -18,16 +18,16 @@ use Rattle.hm_packet.specs.Routing.{Routing}
 use Rattle.hm_packet.specs.declared.body.Body.TheVariants as body
 use Rattle.hm_packet.specs.declared.field.Field.{Field}
 use Rattle.hm_packet.specs.Fields.{fields, tail}
-use Rattle.hm_codec.specs.declared.malformed.Reason.{Reason}
-use Rattle.hm_codec.specs.declared.malformed.Reason.TheVariants as reason
+use Rattle.hm_wire.specs.declared.malformed.Reason.{Reason}
+use Rattle.hm_wire.specs.declared.malformed.Reason.TheVariants as reason
 use Rattle.hm_codec.specs.Bounds.{max_len}
-use Rattle.hm_codec.specs.Grammar.{Size, Grammar, spell, spelled, limit, Leads, number}
-use Rattle.hm_codec.specs.Grammar.Size.{U8, U32, U64}
-use Rattle.hm_codec.specs.Grammar.Grammar.{ended, field}
-use Rattle.hm_codec.specs.Packets.{is_within, may_be_node, node_fields, stamp_fields, run, value_fields, answer_fields, act_fields, entry_fields, many, page_fields, rising, members_fields, body_fields, packet_fields, node_numbers, stamp_numbers, value_numbers, act_numbers, entry_numbers, page_numbers, members_numbers, field_numbers, tail_numbers, body_numbers, code, spelling, HasSpelling, max_spelling_len}
+use Rattle.hm_wire.specs.Grammar.{Size, Grammar, spell, spelled, limit, Leads, number}
+use Rattle.hm_wire.specs.Grammar.Size.{U8, U32, U64}
+use Rattle.hm_wire.specs.Grammar.Grammar.{ended, field}
+use Rattle.hm_wire.specs.Packets.{is_within, may_be_node, node_fields, stamp_fields, run, value_fields, answer_fields, act_fields, entry_fields, many, page_fields, rising, members_fields, body_fields, packet_fields, node_numbers, stamp_numbers, value_numbers, act_numbers, entry_numbers, page_numbers, members_numbers, field_numbers, tail_numbers, body_numbers, code, spelling, HasSpelling, max_spelling_len}
 use Rattle.hm_codec.specs.Writing.{Adds, Writes, TagsValue, field_fields, all_fields, tail_fields}
-use Rattle.hm_codec.proofs.GrammarLaws.{IsBytes, spell-nil, leads_then, spell_then}
-use Rattle.hm_codec.proofs.Lengths.{length-spelling}
+use Rattle.hm_wire.specs.Exact.{IsBytes}
+use Rattle.hm_wire.proofs.GrammarLaws.{spell-nil, leads_then, spell_then}
 
 pub leads_nothing : (g : Grammar) → Leads g [] g
 leads_nothing ended = refl
@@ -294,10 +294,10 @@ pub record Written (m : Message) (new : List ℕ) : Type 0 where
   pub same : new ≡ spelling m
   pub longest : length new ≤ max_spelling_len
 
-pub written : (m : Message) (a b c d e : List ℕ) → Adds [] a (1 ∷ code m.body ∷ []) → Writes node_fields (node_numbers m.src) a b → Writes node_fields (node_numbers m.dst) b c
+pub written : ((m : Message) → HasSpelling m → length (spelling m) ≤ max_spelling_len) → (m : Message) (a b c d e : List ℕ) → Adds [] a (1 ∷ code m.body ∷ []) → Writes node_fields (node_numbers m.src) a b → Writes node_fields (node_numbers m.dst) b c
     → Writes (all_fields (fields m.body)) (flat_map field_numbers (fields m.body)) c d → Writes (tail_fields (tail m.body)) (tail_numbers (tail m.body)) d e → Written m e
 unfolding spelling HasSpelling packet_fields
-written m a b c d e h src dst all end = record { lawful = lawful; same = same; longest = subst (λ (l : List ℕ). length l ≤ max_spelling_len) (sym same) (length-spelling m lawful) }
+written short m a b c d e h src dst all end = record { lawful = lawful; same = same; longest = subst (λ (l : List ℕ). length l ≤ max_spelling_len) (sym same) (short m lawful) }
   where
     ends : Writes (λ rest. all_fields (fields m.body) (tail_fields (tail m.body) rest)) (body_numbers m.body) c e
     ends = writes_then (all_fields (fields m.body)) (tail_fields (tail m.body)) (flat_map field_numbers (fields m.body)) (tail_numbers (tail m.body)) c d e all end
@@ -337,4 +337,4 @@ written m a b c d e h src dst all end = record { lawful = lawful; same = same; l
     whole = adds_then [] a e (1 ∷ code m.body ∷ []) (spell (node_fields (node_fields (body_fields (code m.body)))) (node_numbers m.src ++ (node_numbers m.dst ++ body_numbers m.body))) h src_adds
 
     same : e ≡ spelling m
-    same = whole (let le : length (spelling m) ≤ max_spelling_len = length-spelling m lawful in omega arith)
+    same = whole (let le : length (spelling m) ≤ max_spelling_len = short m lawful in omega arith)

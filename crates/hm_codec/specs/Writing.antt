@@ -5,9 +5,9 @@ use Rattle.hm_packet.specs.declared.field.Field.TheVariants as value
 use Rattle.hm_packet.specs.Fields.{Tail}
 use Rattle.hm_packet.specs.Messages.{IsLawfulNode}
 use Rattle.hm_codec.specs.Bounds.{max_len}
-use Rattle.hm_codec.specs.Grammar.{Grammar, spell, Leads, number}
-use Rattle.hm_codec.specs.Grammar.Size.{U32, U64}
-use Rattle.hm_codec.specs.Packets.{node_fields, stamp_fields, value_fields, answer_fields, act_fields, replica_field, page_fields, members_fields, value_numbers}
+use Rattle.hm_wire.specs.Grammar.{Grammar, spell, Leads, number}
+use Rattle.hm_wire.specs.Grammar.Size.{U32, U64}
+use Rattle.hm_wire.specs.Packets.{node_fields, stamp_fields, value_fields, answer_fields, act_fields, replica_field, page_fields, members_fields, value_numbers}
 
 -- the bytes stand behind the others, if there is room for them
 abbrev pub Adds : List ℕ → List ℕ → List ℕ → Type 0

@@ -1,16 +1,17 @@
 ghost use Rattle.std.specs.Prelude.{◌≡◌, ◌≤◌, ◌↔◌, length, None, Some, IsOk, IfOk, IfErr};
-ghost use Rattle.hm_codec.specs.Packets.{spelling, first_fault, HasSpelling};
+ghost use Rattle.hm_wire.specs.Packets.{spelling, first_fault, HasSpelling};
 
-use crate::fault::malformed;
-use crate::head::head_at;
 use crate::kinds::{
     ask_packet, config_packet, done_packet, fast_read_packet, feed_ack_packet, feed_packet,
     known_packet, normal_read_packet, page_packet, pull_packet, put_packet, read_packet,
     refuse_packet, refused_packet, reply_packet, route_packet, start_view_change_packet,
     vote_packet, write_packet,
 };
-use crate::malformed::Malformed;
 use hm_packet::packet::Packet;
+use hm_wire::fault::malformed;
+use hm_wire::head::head_at;
+use hm_wire::laws::reading_is_exact;
+use hm_wire::malformed::Malformed;
 
 /// The packet that the bytes spell, or their first fault. It takes no memory.
 pub fn decode(bytes: &[u8]) -> Result<Packet, Malformed>
@@ -20,6 +21,7 @@ pub fn decode(bytes: &[u8]) -> Result<Packet, Malformed>
     ensures err { IfErr result (λ m. first_fault bytes.now ≡ Some m) }
     ensures place { IfErr result (λ m. m.at ≤ length bytes.now) }
 {
+    reading_is_exact();
     match head_at(bytes) {
         Ok((head, rest)) => match head.code {
             1 => read_packet(head, rest),

@@ -4,10 +4,10 @@ ghost use Rattle.hm_base.specs.Padded.{max_value_len};
 ghost use Rattle.hm_base.specs.Rising.{IsMembers};
 ghost use Rattle.hm_packet.specs.Fields as table;
 ghost use Rattle.hm_packet.specs.Messages.{IsLawfulNode};
-ghost use Rattle.hm_codec.specs.Grammar.{spelled, number};
-ghost use Rattle.hm_codec.specs.Grammar.Size.{U32, U64};
-ghost use Rattle.hm_codec.specs.Packets as packets;
-ghost use Rattle.hm_codec.specs.Packets.{node_fields, stamp_fields, value_fields, answer_fields, act_fields, entry_fields, many, page_fields, members_fields, node_numbers, stamp_numbers, value_numbers, answer_numbers, act_numbers, entry_numbers, page_numbers, members_numbers, field_numbers, tail_numbers, spelling, max_spelling_len, HasSpelling};
+ghost use Rattle.hm_wire.specs.Grammar.{spelled, number};
+ghost use Rattle.hm_wire.specs.Grammar.Size.{U32, U64};
+ghost use Rattle.hm_wire.specs.Packets as packets;
+ghost use Rattle.hm_wire.specs.Packets.{node_fields, stamp_fields, value_fields, answer_fields, act_fields, entry_fields, many, page_fields, members_fields, node_numbers, stamp_numbers, value_numbers, answer_numbers, act_numbers, entry_numbers, page_numbers, members_numbers, field_numbers, tail_numbers, spelling, max_spelling_len, HasSpelling};
 ghost use Rattle.hm_codec.specs.Writing.{Adds, Writes, field_fields, all_fields, tail_fields, TagsValue, IsLawfulField};
 
 use crate::buf::Buf;
@@ -21,6 +21,7 @@ use hm_base::value::Value;
 use hm_packet::body::Body;
 use hm_packet::field::{Field, MAX_FIELDS, fields};
 use hm_packet::packet::Packet;
+use hm_wire::laws::spelling_is_short;
 
 /// Appends a `u32`.
 fn push_u32(number: u32, buf: &mut Buf)
@@ -243,6 +244,7 @@ pub fn encode(packet: &Packet, buf: &mut Buf)
     ensures lawful { HasSpelling packet.now }
     ensures longest { length buf.new ≤ max_spelling_len }
 {
+    spelling_is_short();
     buf.clear();
     buf.push(&[1, code(&packet.body)]);
     push_node(packet.src, buf);

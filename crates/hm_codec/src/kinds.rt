@@ -1,20 +1,20 @@
 ghost use Rattle.std.specs.Prelude.{◌≡◌};
 ghost use Rattle.hm_packet.specs.Messages.{IsLawfulNode};
 ghost use Rattle.hm_packet.specs.declared.body.Body.TheVariants as body;
-ghost use Rattle.hm_codec.specs.Reading as reading;
-ghost use Rattle.hm_codec.specs.Reading.{located, end_with, as_body};
+ghost use Rattle.hm_wire.specs.Reading as reading;
+ghost use Rattle.hm_wire.specs.Reading.{located, end_with, as_body};
 
-use crate::bodies::{
+use hm_base::entries::Entries;
+use hm_packet::body::{Body, Feed, Page};
+use hm_packet::packet::Packet;
+use hm_wire::bodies::{
     ask_at, config_at, done_at, fast_read_at, feed_ack_at, feed_at, known_at, normal_read_at,
     page_at, pull_at, put_at, read_at, refuse_at, refused_at, reply_at, route_at,
     start_view_change_at, vote_at, write_at,
 };
-use crate::fault::{Fault, malformed};
-use crate::head::Head;
-use crate::malformed::{Malformed, Reason};
-use hm_base::entries::Entries;
-use hm_packet::body::{Body, Feed, Page};
-use hm_packet::packet::Packet;
+use hm_wire::fault::{Fault, malformed};
+use hm_wire::head::Head;
+use hm_wire::malformed::{Malformed, Reason};
 
 /// The packet of a body that was read to the end of the bytes, or the fault. Each kind has a function of its own, since a
 /// function pays at entry for the size of its locals, and a `Body` is large.

@@ -24,17 +24,17 @@ use Rattle.hm_packet.specs.Messages.{Message}
 use Rattle.hm_order.specs.declared.mark.Want.{Want}
 use Rattle.hm_order.specs.declared.mark.Want.TheVariants as want
 use Rattle.hm_rules.specs.Senders.{same_node, number, may_send}
-use Rattle.hm_rules.specs.Numbers.{stands_in}
+use Rattle.hm_rules.specs.Numbers.{stands_in, with_number}
 use Rattle.hm_rules.specs.Same.{same_message}
 use Rattle.hm_rules.specs.Switch.{AbstractSwitch, Turned, is_active, is_dirty, may_refuse, ignoring, sending, own_stamp, member_in_turn, answers_done, on_done, switch_takes, on_body, on_packet, switch_step}
 use Rattle.hm_rules.specs.Replica.{Replica}
-use Rattle.hm_rules.specs.ReplicaSteps.{Stepped, last_number}
+use Rattle.hm_rules.specs.ReplicaSteps.{Stepped}
 use Rattle.hm_rules.specs.Viewstamped.{vr_timeout}
-use Rattle.hm_rules.specs.Service.{Service, Noted, is_fixed, is_member, is_last, removes, refuse_to, retires, notes_refused, is_member_node, on_refused, service_step, awaited, starts}
+use Rattle.hm_rules.specs.Service.{Service, Noted, is_fixed, is_member, is_last, removes, refuse_to, retires, notes_refused, is_member_node, on_refused, service_step, StartFault, start_fault, starts}
 use Rattle.hm_rules.specs.Events.{Event}
 use Rattle.hm_rules.specs.World.{Client, World, Happened, starts_switch, barred, ignored_at, taken, posts, switch_at, sent_at, is_stopped, live, client_of}
 use Rattle.hm_rules.specs.Deliveries.{fits, answered, on_reply, to_client, with_switch, turned, to_switch, replica_step, replica_tick, acted, at_replica, to_replica, noted, to_node, deliver}
-use Rattle.hm_rules.specs.Happens.{asks, request_to, invoked, invokes, resends, at_live, stops, serviced, removal, started, start, raw, next, drops, happens}
+use Rattle.hm_rules.specs.Happens.{asks, request_to, invoked, invokes, resends, at_live, stops, serviced, removal, starts_or, start, raw, next, drops, happens}
 use Rattle.hm_core_laws.specs.Changes.{Origin, is_quiet, Served, Change}
 use Rattle.hm_core_laws.proofs.CoreEvents.{sent_in}
 use Rattle.hm_core_laws.proofs.SameMessages.{sent_before}
@@ -101,9 +101,9 @@ group_kept s m = cond_both (same_node m.dst node.Config) (on_refused s m.src m.b
   where
     by_answer : (from : ℕ) (answer : Refused) → SameGroup s (notes_refused s from answer).service
     by_answer from answer =
-        let already : Noted = if stands_in from s.refused then record { service = s; did = did.Ignored why.Repeat } else record { service = record s { refused = s.refused ++ from ∷ [] }; did = did.Done } in
+        let already : Noted = if stands_in from s.refused then record { service = s; did = did.Ignored why.Repeat } else record { service = record s { refused = with_number from s.refused }; did = did.Done } in
         cond_both (not (s.retiring && (answer.switch == s.newest))) (record { service = s; did = did.Ignored why.Status }) already (λ (n : Noted). SameGroup s n.service) (λ t. (refl, refl))
-        (λ t. cond_both (stands_in from s.refused) (record { service = s; did = did.Ignored why.Repeat }) (record { service = record s { refused = s.refused ++ from ∷ [] }; did = did.Done }) (λ (n : Noted). SameGroup s n.service) (λ f. (refl, refl)) (λ f. (refl, refl)))
+        (λ t. cond_both (stands_in from s.refused) (record { service = s; did = did.Ignored why.Repeat }) (record { service = record s { refused = with_number from s.refused }; did = did.Done }) (λ (n : Noted). SameGroup s n.service) (λ f. (refl, refl)) (λ f. (refl, refl)))
 
     by_body : (b : Body) → SameGroup s (on_refused s m.src b).service
     by_body (body.Refused answer) = cond_both (is_member_node s m.src) (notes_refused s (number m.src) answer) (record { service = s; did = did.Ignored why.Foreign }) (λ (n : Noted). SameGroup s n.service) (λ t. by_answer (number m.src) answer) (λ t. (refl, refl))
@@ -114,10 +114,6 @@ group_of old new (Served.Rests e) = (ap (λ (s : Service). s.members) e, ap (λ 
 group_of old new (Served.Notes m i e) = let kept : SameGroup old.service (service_step old.service m).service = group_kept old.service m in (ap (λ (s : Service). s.members) e ∙ kept.0, ap (λ (s : Service). s.epoch) e ∙ kept.1)
 group_of old new (Served.Retires e) = (ap (λ (s : Service). s.members) e, ap (λ (s : Service). s.epoch) e)
 group_of old new (Served.Starts none e) = (ap (λ (s : Service). s.members) e, ap (λ (s : Service). s.epoch) e)
-
-none_is : (o : Option ℕ) → is_some o ≡ false → o ≡ None
-none_is None e = refl
-none_is (Some n) e = absurd (true≢false e)
 
 -- ---- quiet events
 
@@ -239,12 +235,12 @@ module _ (w : World) where
       (All-map (λ (m : Message). IsTrue (is_quiet m.body)) (refuse_to w.service) w.service.members (λ k x l. refl)) (Served.Retires refl)
 
   starting : Leads (start w)
-  starting =
-      let done : Happened = started w (starts w.service) in
-      cond_both (not w.service.retiring) (barred w bar.NotRetired) (if is_some (awaited w.service (live w)) then barred w bar.NotRefused else if w.service.newest == last_number then barred w bar.NoSwitch else done) Leads (λ a. rests)
-      (λ a. cond_both (is_some (awaited w.service (live w))) (barred w bar.NotRefused) (if w.service.newest == last_number then barred w bar.NoSwitch else done) Leads (λ b. rests)
-      (λ b. cond_both (w.service.newest == last_number) (barred w bar.NoSwitch) done Leads (λ c. rests)
-      (λ c. quiet_silent w (record w { service = starts w.service; switches = w.switches ++ starts_switch w.setup (starts w.service) ∷ [] }) refl refl refl (prefix_same w.stopped) (prefix_same w.history) refl (Served.Starts (none_is (awaited w.service (live w)) b) refl))))
+  starting = by_fault (start_fault w.service (live w)) refl
+    where
+      by_fault : (f : Option StartFault) → start_fault w.service (live w) ≡ f → Leads (starts_or w f)
+      by_fault None e =
+          quiet_silent w (record w { service = starts w.service; switches = w.switches ++ starts_switch w.setup (starts w.service) ∷ [] }) refl refl refl (prefix_same w.stopped) (prefix_same w.history) refl (Served.Starts e refl)
+      by_fault (Some fault) e = rests
 
   dropping : (o : Option Message) → Leads (drops w o)
   dropping None = rests

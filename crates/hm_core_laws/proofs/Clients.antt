@@ -8,17 +8,14 @@ use Rattle.hm_base.specs.declared.entry.Entry.{Entry}
 use Rattle.hm_base.specs.declared.operation.Answer.{Answer}
 use Rattle.hm_base.specs.declared.operation.OpId.{OpId}
 use Rattle.hm_base.specs.Lists.{IsIn}
-use Rattle.hm_base.proofs.ListLaws.{prefix_append, at_in, in_at, in_either}
+use Rattle.hm_base.proofs.ListLaws.{prefix_append, at_in, in_at, in_either, at_last, at_push_cases, map_at}
 use Rattle.hm_order.specs.declared.mark.Mark.{Mark}
 use Rattle.hm_order.specs.declared.mark.Mark.TheVariants.{Invoke, Commit, Reply}
 use Rattle.hm_order.specs.declared.mark.Want.{Want}
-use Rattle.hm_order.specs.Marks.{At, invoked_at}
+use Rattle.hm_order.specs.Marks.{At, invoked_at, commit_of}
 use Rattle.hm_order.specs.Legal.{IsWellFormed}
 use Rattle.hm_order.proofs.Positions.{invoke_found, want_is}
-use Rattle.hm_order.proofs.Growth.{at_last, at_push_cases}
-use Rattle.hm_due_law.proofs.Commits.{map_at}
 use Rattle.hm_due_law.proofs.Later.{want_later}
-use Rattle.hm_rules.specs.Declared.{commit_of}
 use Rattle.hm_rules.specs.World.{Client, with_client}
 use Rattle.hm_core_laws.specs.Packets.{op, WasAsked}
 use Rattle.hm_core_laws.specs.Core.{ClientHolds}

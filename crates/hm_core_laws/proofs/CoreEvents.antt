@@ -35,17 +35,17 @@ use Rattle.hm_due_law.specs.Answers.{IsDueNow}
 use Rattle.hm_due_law.specs.Agreed.{Agree}
 use Rattle.hm_due_law.proofs.Agreeing.{agree_invoke, agree_reply}
 use Rattle.hm_rules.specs.Senders.{same_node, number}
-use Rattle.hm_rules.specs.Numbers.{stands_in}
+use Rattle.hm_rules.specs.Numbers.{stands_in, with_number}
 use Rattle.hm_rules.specs.Same.{same_message}
 use Rattle.hm_rules.specs.Switch.{AbstractSwitch, switch_step}
 use Rattle.hm_rules.specs.Replica.{Replica}
-use Rattle.hm_rules.specs.ReplicaSteps.{Stepped, last_number}
+use Rattle.hm_rules.specs.ReplicaSteps.{Stepped}
 use Rattle.hm_rules.specs.Viewstamped.{vr_timeout}
-use Rattle.hm_rules.specs.Service.{Service, Noted, service_route, from_service, is_fixed, is_member, is_last, config_to, removes, refuse_to, retires, notes_refused, is_member_node, on_refused, service_step, awaited, starts}
+use Rattle.hm_rules.specs.Service.{Service, Noted, service_route, from_service, is_fixed, is_member, is_last, config_to, removes, refuse_to, retires, notes_refused, is_member_node, on_refused, service_step, StartFault, start_fault, starts}
 use Rattle.hm_rules.specs.Events.{Event}
 use Rattle.hm_rules.specs.World.{Client, World, Happened, barred, ignored_at, taken, switch_at, sent_at, is_stopped, live, client_of, with_client}
 use Rattle.hm_rules.specs.Deliveries.{fits, answered, on_reply, to_client, with_switch, turned, to_switch, replica_step, replica_tick, acted, at_replica, to_replica, noted, to_node, deliver}
-use Rattle.hm_rules.specs.Happens.{asks, request_to, invoked, invokes, resends, at_live, stops, serviced, removal, started, start, raw, passed, next, drops, happens}
+use Rattle.hm_rules.specs.Happens.{asks, request_to, invoked, invokes, resends, at_live, stops, serviced, removal, starts_or, start, raw, passed, next, drops, happens}
 use Rattle.hm_core_laws.specs.Sourced.{puts}
 use Rattle.hm_core_laws.specs.Packets.{op, WasAsked, IsAnswer, BodyHolds, Holds}
 use Rattle.hm_core_laws.specs.Core.{ClientHolds, Core}
@@ -81,9 +81,9 @@ newest_kept s m = cond_both (same_node m.dst node.Config) (on_refused s m.src m.
   where
     by_answer : (from : ℕ) (answer : Refused) → (notes_refused s from answer).service.newest ≡ s.newest
     by_answer from answer =
-        let already : Noted = if stands_in from s.refused then record { service = s; did = did.Ignored why.Repeat } else record { service = record s { refused = s.refused ++ from ∷ [] }; did = did.Done } in
+        let already : Noted = if stands_in from s.refused then record { service = s; did = did.Ignored why.Repeat } else record { service = record s { refused = with_number from s.refused }; did = did.Done } in
         cond_both (not (s.retiring && (answer.switch == s.newest))) (record { service = s; did = did.Ignored why.Status }) already (λ (n : Noted). n.service.newest ≡ s.newest) (λ t. refl)
-        (λ t. cond_both (stands_in from s.refused) (record { service = s; did = did.Ignored why.Repeat }) (record { service = record s { refused = s.refused ++ from ∷ [] }; did = did.Done }) (λ (n : Noted). n.service.newest ≡ s.newest) (λ f. refl) (λ f. refl))
+        (λ t. cond_both (stands_in from s.refused) (record { service = s; did = did.Ignored why.Repeat }) (record { service = record s { refused = with_number from s.refused }; did = did.Done }) (λ (n : Noted). n.service.newest ≡ s.newest) (λ f. refl) (λ f. refl))
 
     by_body : (b : Body) → (on_refused s m.src b).service.newest ≡ s.newest
     by_body (body.Refused answer) = cond_both (is_member_node s m.src) (notes_refused s (number m.src) answer) (record { service = s; did = did.Ignored why.Foreign }) (λ (n : Noted). n.service.newest ≡ s.newest) (λ t. by_answer (number m.src) answer) (λ t. refl)
@@ -232,12 +232,11 @@ module _ (w : World) (core : Core w) where
       (All-map (Holds w.history w.declared (w.net ++ outs)) (refuse_to w.service) w.service.members (λ k x l. tt))
 
   core_start : Core (start w).world
-  core_start =
-      let P : Happened → Type 0 = λ (x : Happened). Core x.world in
-      let done : Happened = started w (starts w.service) in
-      cond_both (not w.service.retiring) (barred w bar.NotRetired) (if is_some (awaited w.service (live w)) then barred w bar.NotRefused else if w.service.newest == last_number then barred w bar.NoSwitch else done) P (λ a. core)
-      (λ a. cond_both (is_some (awaited w.service (live w))) (barred w bar.NotRefused) (if w.service.newest == last_number then barred w bar.NoSwitch else done) P (λ b. core)
-      (λ b. cond_both (w.service.newest == last_number) (barred w bar.NoSwitch) done P (λ c. core) (λ c. core_started w core (starts w.service) refl)))
+  core_start = by_fault (start_fault w.service (live w))
+    where
+      by_fault : (f : Option StartFault) → Core (starts_or w f).world
+      by_fault None = core_started w core (starts w.service) refl
+      by_fault (Some fault) = core
 
   core_drops : (o : Option Message) → Core (drops w o).world
   core_drops None = core

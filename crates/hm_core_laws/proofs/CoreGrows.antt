@@ -9,11 +9,10 @@ use Rattle.std.proofs.lemmas.Option.{none-some, same_Some, slice_get_past}
 use Rattle.hm_base.specs.declared.entry.Entry.{Entry}
 use Rattle.hm_base.specs.Lists.{IsPrefix}
 use Rattle.hm_base.specs.Logs.{writes}
-use Rattle.hm_base.proofs.ListLaws.{prefix_same, prefix_append, prefix_take}
+use Rattle.hm_base.proofs.ListLaws.{prefix_same, prefix_append, prefix_take, at_push_cases, set_same, set_other, set_none, set_at, push_none}
 use Rattle.hm_packet.specs.Messages.{Message}
 use Rattle.hm_order.specs.declared.mark.Mark.{Mark}
 use Rattle.hm_order.specs.Marks.{At}
-use Rattle.hm_order.proofs.Growth.{at_push_cases}
 use Rattle.hm_due_law.specs.Tidy.{IsTidy}
 use Rattle.hm_due_law.specs.Declared.{WasInvoked}
 use Rattle.hm_due_law.specs.Agreed.{Agree}
@@ -32,7 +31,7 @@ use Rattle.hm_core_laws.specs.Core.{SwitchHolds, ClientHolds, ReplicaHolds, Core
 use Rattle.hm_core_laws.specs.Owed.{declared_by, StepSound}
 use Rattle.hm_core_laws.proofs.Sources.{IsUnnumbered, puts_rest, replicas_unnumbered, all_sourced_later}
 use Rattle.hm_core_laws.proofs.HoldsLater.{all_hold_later, list_later, replica_later, switch_later}
-use Rattle.hm_core_laws.proofs.ListSteps.{set_same, set_other, set_none, set_cases, push_none, switch_in, switch_there, switch_from, switch_none}
+use Rattle.hm_core_laws.proofs.ListSteps.{switch_in, switch_there, switch_from, switch_none}
 use Rattle.hm_core_laws.proofs.Clients.{client_in, client_commits}
 
 -- a declared list of requests that were made grows in order
@@ -190,13 +189,13 @@ module _ (w : World) (core : Core w) where
     history_after = prefix_append w.history (commits_since w.declared (declared_by w s))
 
     replica_now : (n : ℕ) (x : Replica) → slice_get (slice_set w.replicas number s.replica) n ≡ Some x → ReplicaHolds (stepped w number s).history (declared_by w s) (w.net ++ s.outs) x
-    replica_now n x t = elim (set_cases w.replicas number n s.replica x t) [
-      | inl new ↦ subst (λ (y : Replica). ReplicaHolds (stepped w number s).history (declared_by w s) (w.net ++ s.outs) y) new (record {
+    replica_now n x t = elim (set_at w.replicas number n s.replica x t) [
+      | inl new ↦ subst (λ (y : Replica). ReplicaHolds (stepped w number s).history (declared_by w s) (w.net ++ s.outs) y) new.1 (record {
         log = list_later history_after owed.declared (prefix_append w.net s.outs) core.agree.formed s.replica.log owed.log;
         staged = list_later history_after owed.declared (prefix_append w.net s.outs) core.agree.formed _ owed.staged;
         applied = owed.applied;
       })
-      | inr old ↦ replica_later history_after owed.declared (prefix_append w.net s.outs) core.agree.formed x (core.replicas n x old)
+      | inr old ↦ replica_later history_after owed.declared (prefix_append w.net s.outs) core.agree.formed x (core.replicas n x old.1)
     ]
 
     pub core_stepped : Core (stepped w number s)

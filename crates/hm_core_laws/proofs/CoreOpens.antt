@@ -3,11 +3,9 @@ use Rattle.std.proofs.Common.{◌≡◌, ℕ, ◌-◌, ◌<◌, [], ◌∷◌, S
 use Rattle.std.specs.Prelude.{slice_get}
 use Rattle.std.proofs.lemmas.List.Elements.{All-nil}
 use Rattle.std.proofs.lemmas.Option.{none-some, same_Some}
-use Rattle.hm_base.proofs.ListLaws.{prefix_nil}
+use Rattle.hm_base.proofs.ListLaws.{prefix_nil, at_push_cases, map_at}
 use Rattle.hm_order.specs.Marks.{At}
-use Rattle.hm_order.proofs.Growth.{at_push_cases}
 use Rattle.hm_due_law.proofs.Agreeing.{agree_nil}
-use Rattle.hm_due_law.proofs.Commits.{map_at}
 use Rattle.hm_due_law.proofs.Tidies.{tidy_nil}
 use Rattle.hm_rules.specs.Switch.{AbstractSwitch}
 use Rattle.hm_rules.specs.Replica.{Replica, opened}

@@ -4,8 +4,8 @@ use Rattle.std.specs.Prelude.{not, nat_eq, filter, slice_get}
 use Rattle.std.proofs.lemmas.Bool.{both_ways, ne_eqb, not_from_false}
 use Rattle.std.proofs.lemmas.List.{length-append, length-set, length-map}
 use Rattle.std.proofs.lemmas.Option.{none-some, same_Some, slice_get_within}
+use Rattle.hm_base.proofs.ListLaws.{at_push_cases, at_last, set_at, map_at}
 use Rattle.hm_order.specs.Marks.{At}
-use Rattle.hm_order.proofs.Growth.{at_push_cases, at_last}
 use Rattle.hm_rules.specs.Replica.{Replica, opened}
 use Rattle.hm_rules.specs.ReplicaSteps.{Stepped}
 use Rattle.hm_rules.specs.Service.{removes, replicas_below}
@@ -15,7 +15,6 @@ use Rattle.hm_rules.specs.Deliveries.{stepped}
 use Rattle.hm_rules.specs.Happens.{serviced}
 use Rattle.hm_core_laws.specs.Epochs.{HasMember, RiseFrom, EpochsHold}
 use Rattle.hm_core_laws.specs.Changes.{IsQuiet}
-use Rattle.hm_core_laws.proofs.ListSteps.{set_at, map_at}
 use Rattle.hm_core_laws.proofs.Members.{filter_member, member_filter, rise_filter, absent_before, numbers_rise, numbers_below, numbers_at, numbers-length, member_at}
 
 -- ---- before the first event

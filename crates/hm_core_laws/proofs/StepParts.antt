@@ -9,12 +9,12 @@ use Rattle.hm_base.specs.declared.entry.Act.{Act}
 use Rattle.hm_base.specs.declared.entry.Act.TheVariants as act
 use Rattle.hm_base.specs.Lists.{IsPrefix}
 use Rattle.hm_base.specs.Logs.{is_put, is_write}
-use Rattle.hm_base.proofs.ListLaws.{prefix_same, prefix_append, prefix_then, prefix_at, each_at}
+use Rattle.hm_base.proofs.ListLaws.{prefix_same, prefix_append, prefix_then, prefix_at, each_at, each_from_at}
 use Rattle.hm_packet.specs.Messages.{Message}
 use Rattle.hm_order.specs.declared.mark.Mark.{Mark}
-use Rattle.hm_order.specs.Marks.{At}
+use Rattle.hm_order.specs.Marks.{At, op_of}
 use Rattle.hm_order.proofs.Growth.{want_invoked}
-use Rattle.hm_due_law.specs.Declared.{op_of, wanted, WasInvoked}
+use Rattle.hm_due_law.specs.Declared.{wanted, WasInvoked}
 use Rattle.hm_due_law.specs.Agreed.{Agree}
 use Rattle.hm_due_law.proofs.ReadAnswers.{look_due}
 use Rattle.hm_rules.specs.Senders.{replica_sends}
@@ -26,10 +26,6 @@ use Rattle.hm_core_laws.specs.Packets.{IsCompletion, Holds}
 use Rattle.hm_core_laws.specs.Core.{ReplicaHolds, Core}
 use Rattle.hm_core_laws.specs.Owed.{declared_by, StepSound}
 use Rattle.hm_core_laws.proofs.HoldsLater.{all_hold_later}
-
--- what holds at each place holds of each item
-pub all_from_at : {A : Type 0} (P : A → Type 0) (xs : List A) → ((i : ℕ) (x : A) → At xs i x → P x) → All P xs
-all_from_at P xs f k d l = f k (get_or xs k d) (slice_get-get_or xs k d l)
 
 -- ---- a step that leaves the lists
 
@@ -79,7 +75,7 @@ module _ (h : List Mark) (k : List Entry) (net : List Message) (r : Replica) (fr
   unfolding after
   answers_hold =
       All-map (Holds h k net) (answer_entry after) (drop (max from (to - max_answered)) (take to r.log))
-      (All-drop (λ (e : Entry). Holds h k net (answer_entry after e)) (max from (to - max_answered)) (take to r.log) (all_from_at (λ (e : Entry). Holds h k net (answer_entry after e)) (take to r.log) answer_holds))
+      (All-drop (λ (e : Entry). Holds h k net (answer_entry after e)) (max from (to - max_answered)) (take to r.log) (each_from_at (λ (e : Entry). Holds h k net (answer_entry after e)) (take to r.log) answer_holds))
 
 -- a replica sends them
 answer_sent : (r : Replica) (e : Entry) (x : Act) → IsTrue (replica_sends (answer_act r e x).body)
@@ -89,4 +85,4 @@ answer_sent r e act.Look = refl
 pub answers_sent : (r : Replica) (from to : ℕ) → All (λ (m : Message). IsTrue (replica_sends m.body)) (declares r from to).outs
 answers_sent r from to =
     All-map (λ (m : Message). IsTrue (replica_sends m.body)) (answer_entry (record r { known = to })) (drop (max from (to - max_answered)) (take to r.log))
-    (all_from_at (λ (e : Entry). IsTrue (replica_sends (answer_entry (record r { known = to }) e).body)) (drop (max from (to - max_answered)) (take to r.log)) (λ i e a. answer_sent (record r { known = to }) e e.act))
+    (each_from_at (λ (e : Entry). IsTrue (replica_sends (answer_entry (record r { known = to }) e).body)) (drop (max from (to - max_answered)) (take to r.log)) (λ i e a. answer_sent (record r { known = to }) e e.act))

@@ -12,7 +12,7 @@ use Rattle.hm_base.specs.declared.node.Node.TheVariants as node
 use Rattle.hm_base.specs.declared.operation.Answer.TheVariants.{Wrote}
 use Rattle.hm_base.specs.declared.operation.OpId.{OpId}
 use Rattle.hm_base.specs.declared.why.Why.TheVariants as why
-use Rattle.hm_base.proofs.ListLaws.{prefix_same, each_at}
+use Rattle.hm_base.proofs.ListLaws.{prefix_same, each_at, at_last, at_push_cases, at_map}
 use Rattle.hm_packet.specs.declared.body.Body.{Body}
 use Rattle.hm_packet.specs.declared.body.Body.TheVariants as body
 use Rattle.hm_packet.specs.declared.body.Read.{Read}
@@ -25,13 +25,12 @@ use Rattle.hm_packet.specs.Messages.{Message}
 use Rattle.hm_packet.specs.Routing.{Routing}
 use Rattle.hm_order.specs.declared.mark.Mark.{Mark}
 use Rattle.hm_order.specs.declared.mark.Want.TheVariants as want
-use Rattle.hm_order.specs.Marks.{At, invoked_at}
-use Rattle.hm_order.proofs.Growth.{at_last, at_push_cases, want_invoked}
+use Rattle.hm_order.specs.Marks.{At, invoked_at, op_of}
+use Rattle.hm_order.proofs.Growth.{want_invoked}
 use Rattle.hm_due_law.specs.Tidy.{HasWrite}
-use Rattle.hm_due_law.specs.Declared.{op_of, wanted, WasInvoked}
+use Rattle.hm_due_law.specs.Declared.{wanted, WasInvoked}
 use Rattle.hm_due_law.specs.Answers.{IsDueNow, IsClean}
 use Rattle.hm_due_law.specs.Agreed.{Agree}
-use Rattle.hm_due_law.proofs.Commits.{at_map}
 use Rattle.hm_due_law.proofs.Fresh.{clean_is_fresh}
 use Rattle.hm_due_law.proofs.ReadAnswers.{completion_due}
 use Rattle.hm_rules.specs.Senders.{same_node, number, may_send}

@@ -10,7 +10,7 @@ use Rattle.hm_rules.specs.Senders.{client_sends, switch_sends}
 use Rattle.hm_rules.specs.Replica.{Replica}
 use Rattle.hm_rules.specs.ReplicaSteps.{Stepped}
 use Rattle.hm_rules.specs.Viewstamped.{vr_timeout}
-use Rattle.hm_rules.specs.Service.{is_fixed, is_member, is_last, removes, retires, service_step, awaited, starts}
+use Rattle.hm_rules.specs.Service.{is_fixed, is_member, is_last, removes, retires, service_step, start_fault, starts}
 use Rattle.hm_rules.specs.World.{World, is_stopped, live}
 use Rattle.hm_rules.specs.Deliveries.{replica_step, replica_tick, stepped}
 use Rattle.hm_rules.specs.Happens.{serviced}
@@ -43,7 +43,7 @@ pub data Served (old new : World) : Type 0 where
   Rests : new.service ≡ old.service → Served old new
   Notes : (m : Message) → IsIn m old.net → new.service ≡ (service_step old.service m).service → Served old new
   Retires : new.service ≡ (retires old.service).service → Served old new
-  Starts : awaited old.service (live old) ≡ None → new.service ≡ starts old.service → Served old new
+  Starts : start_fault old.service (live old) ≡ None → new.service ≡ starts old.service → Served old new
 
 -- no replica takes a step, and the group stays
 pub record IsQuiet (old new : World) : Type 0 where

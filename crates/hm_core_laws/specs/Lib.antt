@@ -2,6 +2,7 @@ pub mod Sourced
 pub mod Packets
 pub mod Core
 pub mod Changes
+pub mod Accepted
 pub mod Owed
 pub mod Epochs
 pub mod Later

@@ -13,8 +13,7 @@ use Rattle.hm_packet.specs.Messages.{Message}
 use Rattle.hm_order.specs.declared.mark.Mark.{Mark}
 use Rattle.hm_order.specs.declared.mark.Want.{Want}
 use Rattle.hm_order.specs.declared.mark.Want.TheVariants as want
-use Rattle.hm_order.specs.Marks.{At, invoked_at, want_of}
-use Rattle.hm_due_law.specs.Declared.{op_of}
+use Rattle.hm_order.specs.Marks.{At, invoked_at, want_of, op_of}
 use Rattle.hm_due_law.specs.Answers.{IsDueNow, IsFresh}
 use Rattle.hm_rules.specs.Senders.{number}
 use Rattle.hm_rules.specs.ReplicaSteps.{entry_of}

@@ -8,6 +8,8 @@ ghost use Rattle.hm_core_laws.specs.Core.{Core};
 ghost use Rattle.hm_core_laws.specs.Changes.{Change};
 ghost use Rattle.hm_core_laws.specs.Owed.{StepsSound};
 
+use hm_order::law::order_is_legal;
+
 /// The core facts hold before the first event, whatever the setup.
 pub fn core_holds_at_first()
     ensures { (setup : Setup) → Core (opens setup) }
@@ -27,4 +29,6 @@ pub fn events_are_changes()
 /// From the core facts follows that the history's order explains it.
 pub fn core_explains_history()
     ensures { (w : World) → Core w → IsLegal w.history (order w.history) }
-{}
+{
+    order_is_legal();
+}

@@ -5,5 +5,3 @@ pub mod dirty_set;
 mod find;
 mod places;
 pub mod slot;
-#[cfg(test)]
-mod tests;

@@ -14,17 +14,17 @@ use Rattle.hm_base.specs.declared.operation.OpId.{OpId}
 use Rattle.hm_base.specs.Lists.{IsPrefix}
 use Rattle.hm_base.specs.Logs.{is_put, is_write, writes, end_stamp}
 use Rattle.hm_base.specs.Stamps.{least, ◌≼◌, ◌≺◌}
-use Rattle.hm_base.proofs.ListLaws.{prefix_append, prefix_at, prefix_at_back, each_at}
+use Rattle.hm_base.proofs.ListLaws.{prefix_append, prefix_at, prefix_at_back, each_at, at_last, at_push_cases}
 use Rattle.hm_base.proofs.StampLaws.{at_most_then, below_is_other, not_below}
 use Rattle.hm_order.specs.declared.mark.Mark.{Mark}
 use Rattle.hm_order.specs.declared.mark.Mark.TheVariants.{Invoke, Commit, Reply}
 use Rattle.hm_order.specs.declared.mark.Want.{Want}
-use Rattle.hm_order.specs.Marks.{At, invoked_at, committed_at, replied_at}
+use Rattle.hm_order.specs.Marks.{At, invoked_at, committed_at, replied_at, op_of, commit_of, commits_for}
 use Rattle.hm_order.specs.Legal.{IsWellFormed, IsDue}
 use Rattle.hm_order.proofs.Positions.{commit_found}
-use Rattle.hm_order.proofs.Growth.{at_last, at_push_cases, want_invoked, formed_nil, formed_invoke, formed_commit, formed_reply, all_due_nil, all_due_push}
+use Rattle.hm_order.proofs.Growth.{want_invoked, formed_nil, formed_invoke, formed_commit, formed_reply, all_due_nil, all_due_push}
 use Rattle.hm_due_law.specs.Tidy.{IsTidy}
-use Rattle.hm_due_law.specs.Declared.{op_of, wanted, WasInvoked, commit_mark, is_commit, commit_marks, commits_for, Records, LooksComeFirst}
+use Rattle.hm_due_law.specs.Declared.{wanted, WasInvoked, is_commit, commit_marks, Records, LooksComeFirst}
 use Rattle.hm_due_law.specs.Answers.{IsDueNow}
 use Rattle.hm_due_law.specs.Agreed.{Agree}
 use Rattle.hm_due_law.proofs.Tidies.{follows, rises_back, tidy_nil, tidy_prefix, tidy_at, tidy_write, operation_once, stamp_once}
@@ -85,10 +85,10 @@ agree_reply h k op reply g l n d = record {
     Due_of : Mark → Type 0
     Due_of (Invoke o w) = Unit {0}
     Due_of (Commit o s) = Unit {0}
-    Due_of (Reply o v a) = (invoked_at h o < length h) × IsDue h (length h) o v a
+    Due_of (Reply o v a) = IsDue h (length h) o v a
 
-    due_of : (o : OpId) (v : Stamp) (a : Answer) → Some (Reply op reply.0 reply.1) ≡ Some (Reply o v a) → (invoked_at h o < length h) × IsDue h (length h) o v a
-    due_of o v a t = subst Due_of (same_Some (Reply op reply.0 reply.1) (Reply o v a) t) (l, d)
+    due_of : (o : OpId) (v : Stamp) (a : Answer) → Some (Reply op reply.0 reply.1) ≡ Some (Reply o v a) → IsDue h (length h) o v a
+    due_of o v a t = subst Due_of (same_Some (Reply op reply.0 reply.1) (Reply o v a) t) d
 
 -- ---- one more declared entry
 
@@ -115,10 +115,10 @@ module _ (h : List Mark) (k : List Entry) (e : Entry) (g : Agree h k) (tidy : Is
     | inr ge ↦ ge
   ]
 
-  formed_write : is_write e ≡ true → IsWellFormed (h ++ commit_mark e ∷ [])
+  formed_write : is_write e ≡ true → IsWellFormed (h ++ commit_of e ∷ [])
   formed_write writes = by_act e.act refl
     where
-      by_act : (act : Act) → e.act ≡ act → IsWellFormed (h ++ commit_mark e ∷ [])
+      by_act : (act : Act) → e.act ≡ act → IsWellFormed (h ++ commit_of e ∷ [])
       by_act (Put value) p =
           formed_commit h g.formed (op_of e) e.stamp e.object value (asked ∙ ap (λ (act : Act). Some (wanted e.object act)) p) (uncommitted writes)
           (below_is_other least e.stamp (tidy_write (k ++ e ∷ []) (length k) e tidy last writes))
@@ -136,22 +136,22 @@ module _ (h : List Mark) (k : List Entry) (e : Entry) (g : Agree h k) (tidy : Is
   invoked_all : (h' : List Mark) → IsPrefix h h' → All (WasInvoked h') (k ++ e ∷ [])
   invoked_all h' f = All-push (WasInvoked h') k e (still_invoked h h' k f g.records.invoked) (was_invoked_later e f asked)
 
-  agree_write : is_write e ≡ true → Agree (h ++ commit_mark e ∷ []) (k ++ e ∷ [])
+  agree_write : is_write e ≡ true → Agree (h ++ commit_of e ∷ []) (k ++ e ∷ [])
   agree_write writes = record {
     formed = formed_write writes;
-    due = all_due_push h (commit_mark e) g.formed g.due (λ o v a t. absurd (cc));
+    due = all_due_push h (commit_of e) g.formed g.due (λ o v a t. absurd (cc));
     records = record {
       tidy = tidy;
-      commits = filter-append is_commit h (commit_mark e ∷ []) ∙ ap (λ (l : List Mark). l ++ commit_mark e ∷ []) g.records.commits
-          ∙ sym (ap (map commit_mark) (filter-append is_write k (e ∷ []) ∙ ap (λ (l : List Entry). filter is_write k ++ l) (cond-true (is_write e) (e ∷ []) [] writes)) ∙ map-append commit_mark (filter is_write k) (e ∷ []));
-      invoked = invoked_all (h ++ commit_mark e ∷ []) (prefix_append h (commit_mark e ∷ []));
+      commits = filter-append is_commit h (commit_of e ∷ []) ∙ ap (λ (l : List Mark). l ++ commit_of e ∷ []) g.records.commits
+          ∙ sym (ap (map commit_of) (filter-append is_write k (e ∷ []) ∙ ap (λ (l : List Entry). filter is_write k ++ l) (cond-true (is_write e) (e ∷ []) [] writes)) ∙ map-append commit_of (filter is_write k) (e ∷ []));
+      invoked = invoked_all (h ++ commit_of e ∷ []) (prefix_append h (commit_of e ∷ []));
     };
     looks = λ i j look op stamp a reads c l. looks_write i j look op stamp a reads c l;
   }
     where
-      looks_write : LooksComeFirst (h ++ commit_mark e ∷ []) (k ++ e ∷ [])
+      looks_write : LooksComeFirst (h ++ commit_of e ∷ []) (k ++ e ∷ [])
       looks_write i j look op stamp a reads c l = elim (at_push_cases k e i look a) [
-        | inl old ↦ looks_still h (h ++ commit_mark e ∷ []) k (prefix_append h (commit_mark e ∷ [])) g.records.invoked g.looks i j look op stamp old reads c l
+        | inl old ↦ looks_still h (h ++ commit_of e ∷ []) k (prefix_append h (commit_of e ∷ [])) g.records.invoked g.looks i j look op stamp old reads c l
         | inr new ↦ absurd (both_ways (is_write e) (ap is_write (same_Some e look new.1) ∙ reads) writes)
       ]
 
@@ -161,7 +161,7 @@ module _ (h : List Mark) (k : List Entry) (e : Entry) (g : Agree h k) (tidy : Is
     due = g.due;
     records = record {
       tidy = tidy;
-      commits = g.records.commits ∙ sym (ap (map commit_mark) (filter-append is_write k (e ∷ []) ∙ ap (λ (l : List Entry). filter is_write k ++ l) (cond-false (is_write e) (e ∷ []) [] reads) ∙ append-nil (filter is_write k)));
+      commits = g.records.commits ∙ sym (ap (map commit_of) (filter-append is_write k (e ∷ []) ∙ ap (λ (l : List Entry). filter is_write k ++ l) (cond-false (is_write e) (e ∷ []) [] reads) ∙ append-nil (filter is_write k)));
       invoked = All-push (WasInvoked h) k e g.records.invoked asked;
     };
     looks = λ i j look op stamp a r c l. looks_look i j look op stamp a r c l;
@@ -177,8 +177,8 @@ module _ (h : List Mark) (k : List Entry) (e : Entry) (g : Agree h k) (tidy : Is
   agree_entry = by_write (is_write e) refl
     where
       by_write : (b : Bool) → is_write e ≡ b → Agree (h ++ commits_for (e ∷ [])) (k ++ e ∷ [])
-      by_write true writes = subst (λ (l : List Entry). Agree (h ++ map commit_mark l) (k ++ e ∷ [])) (sym (cond-true (is_write e) (e ∷ []) [] writes)) (agree_write writes)
-      by_write false reads = subst (λ (l : List Entry). Agree (h ++ map commit_mark l) (k ++ e ∷ [])) (sym (cond-false (is_write e) (e ∷ []) [] reads)) (subst (λ (m : List Mark). Agree m (k ++ e ∷ [])) (sym (append-nil h)) (agree_look reads))
+      by_write true writes = subst (λ (l : List Entry). Agree (h ++ map commit_of l) (k ++ e ∷ [])) (sym (cond-true (is_write e) (e ∷ []) [] writes)) (agree_write writes)
+      by_write false reads = subst (λ (l : List Entry). Agree (h ++ map commit_of l) (k ++ e ∷ [])) (sym (cond-false (is_write e) (e ∷ []) [] reads)) (subst (λ (m : List Mark). Agree m (k ++ e ∷ [])) (sym (append-nil h)) (agree_look reads))
 
 -- ---- more declared entries, whose operations were invoked
 
@@ -191,7 +191,7 @@ agree_declare h k (e ∷ es) g tidy all =
     let one : Agree (h ++ commits_for (e ∷ [])) (k ++ e ∷ []) = agree_entry h k e g front (each_at (WasInvoked h) (e ∷ es) 0 e all refl) in
     let rest : Agree ((h ++ commits_for (e ∷ [])) ++ commits_for es) ((k ++ e ∷ []) ++ es) = agree_declare (h ++ commits_for (e ∷ [])) (k ++ e ∷ []) es one longer (still_invoked h (h ++ commits_for (e ∷ [])) es (prefix_append h (commits_for (e ∷ []))) (All-tail (WasInvoked h) e es all)) in
     let marks : (h ++ commits_for (e ∷ [])) ++ commits_for es ≡ h ++ commits_for (e ∷ es) =
-    append_assoc h (commits_for (e ∷ [])) (commits_for es) ∙ ap (λ (l : List Mark). h ++ l) (sym (ap (map commit_mark) (filter-append is_write (e ∷ []) es) ∙ map-append commit_mark (filter is_write (e ∷ [])) (filter is_write es))) in
+    append_assoc h (commits_for (e ∷ [])) (commits_for es) ∙ ap (λ (l : List Mark). h ++ l) (sym (ap (map commit_of) (filter-append is_write (e ∷ []) es) ∙ map-append commit_of (filter is_write (e ∷ [])) (filter is_write es))) in
     subst (λ (l : List Entry). Agree (h ++ commits_for (e ∷ es)) l) whole (subst (λ (m : List Mark). Agree m ((k ++ e ∷ []) ++ es)) marks rest)
 
 -- the same where the list is replaced by a longer one

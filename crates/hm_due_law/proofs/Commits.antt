@@ -9,35 +9,15 @@ use Rattle.hm_base.specs.declared.operation.OpId.{OpId}
 use Rattle.hm_base.specs.Logs.{is_write, writes}
 use Rattle.hm_base.specs.Stamps.{least, ◌≼◌, ◌≺◌}
 use Rattle.hm_base.proofs.StampLaws.{then_below, below_at_most}
+use Rattle.hm_base.proofs.ListLaws.{at_filter, filter_at, at_map, map_at}
 use Rattle.hm_order.specs.declared.mark.Mark.{Mark}
 use Rattle.hm_order.specs.declared.mark.Mark.TheVariants.{Invoke, Commit, Reply}
-use Rattle.hm_order.specs.Marks.{At}
-use Rattle.hm_order.proofs.Lists.{filter_contains}
+use Rattle.hm_order.specs.Marks.{At, op_of, commit_of, commits_for}
 use Rattle.hm_due_law.specs.Tidy.{StampsRise, IsTidy}
-use Rattle.hm_due_law.specs.Declared.{op_of, commit_mark, is_commit, commit_marks, commits_for}
+use Rattle.hm_due_law.specs.Declared.{is_commit, commit_marks}
 use Rattle.hm_due_law.proofs.Tidies.{follows, write_follows}
 
 -- ---- filters and maps by place
-
-pub filter_at : {A : Type 0} (p : A → Bool) (xs : List A) (j : ℕ) (x : A) → At (filter p xs) j x → (i : ℕ) × At xs i x × (p x ≡ true)
-filter_at p [] j x e = absurd (none-some x e)
-filter_at {A} p (y ∷ xs) j x e =
-    let later : (k : ℕ) → At (filter p xs) k x → (i : ℕ) × At (y ∷ xs) i x × (p x ≡ true) = λ k f. (let r : (i : ℕ) × At xs i x × (p x ≡ true) = filter_at p xs k x f in (suc r.0, r.1, r.2)) in
-    cond_both (p y) (y ∷ filter p xs) (filter p xs) (λ (l : List A). At l j x → (i : ℕ) × At (y ∷ xs) i x × (p x ≡ true)) (λ yes. first yes j later) (λ no. later j) e
-  where
-    first : p y ≡ true → (j : ℕ) → ((k : ℕ) → At (filter p xs) k x → (i : ℕ) × At (y ∷ xs) i x × (p x ≡ true)) → At (y ∷ filter p xs) j x → (i : ℕ) × At (y ∷ xs) i x × (p x ≡ true)
-    first passes zero later f = (0, f, ap p (sym (same_Some y x f)) ∙ passes)
-    first passes (suc j) later f = later j f
-
-pub at_map : {A B : Type 0} (f : A → B) (xs : List A) (i : ℕ) (x : A) → At xs i x → At (map f xs) i (f x)
-at_map f [] i x e = absurd (none-some x e)
-at_map f (y ∷ xs) zero x e = ap (λ z. Some (f z)) (same_Some y x e)
-at_map f (y ∷ xs) (suc i) x e = at_map f xs i x e
-
-pub map_at : {A B : Type 0} (f : A → B) (xs : List A) (i : ℕ) (z : B) → At (map f xs) i z → (x : A) × At xs i x × (f x ≡ z)
-map_at f [] i z e = absurd (none-some z e)
-map_at f (y ∷ xs) zero z e = (y, refl, same_Some (f y) z e)
-map_at f (y ∷ xs) (suc i) z e = map_at f xs i z e
 
 -- ---- a Commit is of a declared write, and a declared write has its Commit
 
@@ -52,16 +32,16 @@ pub record IsOfWrite (declared : List Entry) (op : OpId) (stamp : Stamp) : Type 
 
 pub commit_of_write : (h : List Mark) (k : List Entry) (i : ℕ) (op : OpId) (stamp : Stamp) → commit_marks h ≡ commits_for k → At h i (Commit op stamp) → IsOfWrite k op stamp
 commit_of_write h k i op stamp same e =
-    let f : (j : ℕ) × At (commit_marks h) j (Commit op stamp) = filter_contains is_commit h i (Commit op stamp) e refl in
-    let m : (x : Entry) × At (writes k) f.0 x × (commit_mark x ≡ Commit op stamp) = map_at commit_mark (writes k) f.0 (Commit op stamp) (subst (λ (l : List Mark). At l f.0 (Commit op stamp)) same f.1) in
+    let f : (j : ℕ) × At (commit_marks h) j (Commit op stamp) = at_filter is_commit h i (Commit op stamp) e refl in
+    let m : (x : Entry) × At (writes k) f.0 x × (commit_of x ≡ Commit op stamp) = map_at commit_of (writes k) f.0 (Commit op stamp) (subst (λ (l : List Mark). At l f.0 (Commit op stamp)) same f.1) in
     let g : (i : ℕ) × At k i m.0 × (is_write m.0 ≡ true) = filter_at is_write k f.0 m.0 m.1 in
-    let o : commit_mark m.0 ≡ Commit op stamp = m.2 in
+    let o : commit_of m.0 ≡ Commit op stamp = m.2 in
     record { place = g.0; entry = m.0; there = g.1; write = g.2; operation = (cc); same = (cc) }
 
 pub write_has_commit : (h : List Mark) (k : List Entry) (i : ℕ) (e : Entry) → commit_marks h ≡ commits_for k → At k i e → is_write e ≡ true → (j : ℕ) × At h j (Commit (op_of e) e.stamp)
 write_has_commit h k i e same a w =
-    let f : (j : ℕ) × At (writes k) j e = filter_contains is_write k i e a w in
-    let m : At (commit_marks h) f.0 (Commit (op_of e) e.stamp) = subst (λ (l : List Mark). At l f.0 (Commit (op_of e) e.stamp)) (sym same) (at_map commit_mark (writes k) f.0 e f.1) in
+    let f : (j : ℕ) × At (writes k) j e = at_filter is_write k i e a w in
+    let m : At (commit_marks h) f.0 (Commit (op_of e) e.stamp) = subst (λ (l : List Mark). At l f.0 (Commit (op_of e) e.stamp)) (sym same) (at_map commit_of (writes k) f.0 e f.1) in
     let g : (i : ℕ) × At h i (Commit (op_of e) e.stamp) × (is_commit (Commit (op_of e) e.stamp) ≡ true) = filter_at is_commit h f.0 (Commit (op_of e) e.stamp) m in
     (g.0, g.1)
 
@@ -91,7 +71,7 @@ lower_begin low last (Reply op version answer ∷ ms) l h = (tt, lower_begin low
 
 writes_rise : (last : Stamp) (log : List Entry) → StampsRise last log → CommitsRise last (commits_for log)
 writes_rise last [] h = tt
-writes_rise last (e ∷ es) h = cond_both (is_write e) (e ∷ writes es) (writes es) (λ (l : List Entry). CommitsRise last (map commit_mark l)) (λ yes. (write_follows last e yes h.0, writes_rise e.stamp es h.1)) (λ no. lower_begin last e.stamp (commits_for es) (follows last e h.0) (writes_rise e.stamp es h.1))
+writes_rise last (e ∷ es) h = cond_both (is_write e) (e ∷ writes es) (writes es) (λ (l : List Entry). CommitsRise last (map commit_of l)) (λ yes. (write_follows last e yes h.0, writes_rise e.stamp es h.1)) (λ no. lower_begin last e.stamp (commits_for es) (follows last e h.0) (writes_rise e.stamp es h.1))
 
 marks_rise : (last : Stamp) (h : List Mark) → CommitsRise last (commit_marks h) → CommitsRise last h
 marks_rise last [] r = tt

@@ -16,9 +16,10 @@ use Rattle.hm_base.proofs.StampLaws.{at_most_same, below_at_most, below_is_other
 use Rattle.hm_order.specs.declared.mark.Mark.{Mark}
 use Rattle.hm_order.specs.declared.mark.Mark.TheVariants.{Commit}
 use Rattle.hm_order.specs.declared.mark.Want.TheVariants.{Read, Write}
-use Rattle.hm_order.specs.Marks.{At, invoked_at, want_of}
+use Rattle.hm_order.specs.Marks.{At, invoked_at, want_of, op_of}
 use Rattle.hm_order.specs.Legal.{WritesAt, IsSeen}
-use Rattle.hm_due_law.specs.Declared.{op_of, wanted, WasInvoked, Records}
+use Rattle.hm_order.proofs.Growth.{want_invoked}
+use Rattle.hm_due_law.specs.Declared.{wanted, WasInvoked, Records}
 use Rattle.hm_due_law.specs.Answers.{IsDueNow, PrefixAnswer}
 use Rattle.hm_due_law.proofs.Tidies.{tidy_beyond, tidy_two, tidy_write}
 use Rattle.hm_due_law.proofs.Commits.{IsOfWrite, commit_of_write, write_has_commit, commits_rise}
@@ -60,6 +61,7 @@ module _ (h : List Mark) (k a : List Entry) (op : OpId) (o : ℕ) (p : PrefixAns
 
   nothing_due : NoWrite a o → IsDueNow h op (least, Nothing)
   nothing_due none = record {
+    invoked = want_invoked h op (Read o) p.read;
     wrote = λ object value w. absurd (no_write object value w);
     committed = λ object value w. absurd (no_write object value w);
     nothing = λ object w z. refl;
@@ -77,6 +79,7 @@ module _ (h : List Mark) (k a : List Entry) (op : OpId) (o : ℕ) (p : PrefixAns
 
   found_due : (write : Stamp × List ℕ) → IsLastWrite a o write → IsDueNow h op (write.0, Found write.1)
   found_due write last = record {
+    invoked = want_invoked h op (Read o) p.read;
     wrote = λ object value w. absurd (no_write object value w);
     committed = λ object value w. absurd (no_write object value w);
     nothing = λ object w z. absurd (above z);
@@ -125,7 +128,7 @@ module _ (h : List Mark) (k a : List Entry) (op : OpId) (o : ℕ) (p : PrefixAns
         write = record { writer = op_of last.entry; stamp = last.entry.stamp; value = write.1; commit = commit.1; want = want };
         earlier = slice_get_within h commit.0 (Commit (op_of last.entry) last.entry.stamp) commit.1;
         same = last.with_stamp;
-        found = refl;
+        answered = refl;
         last = others;
       }
 

@@ -8,30 +8,20 @@ use Rattle.hm_base.specs.declared.entry.Entry.{Entry}
 use Rattle.hm_base.specs.declared.operation.Answer.{Answer}
 use Rattle.hm_base.specs.declared.operation.OpId.{OpId}
 use Rattle.hm_base.specs.Lists.{IsPrefix}
-use Rattle.hm_base.proofs.ListLaws.{prefix-length, prefix_at, prefix_at_back}
+use Rattle.hm_base.proofs.ListLaws.{prefix-length, prefix_at, prefix_at_back, first_at, first_le, first_later}
 use Rattle.hm_order.specs.declared.mark.Mark.{Mark}
 use Rattle.hm_order.specs.declared.mark.Mark.TheVariants.{Invoke, Commit}
 use Rattle.hm_order.specs.declared.mark.Want.{Want}
 use Rattle.hm_order.specs.declared.mark.Want.TheVariants.{Read, Write}
-use Rattle.hm_order.specs.Marks.{At, invokes, invoked_at, want_in, want_of}
+use Rattle.hm_order.specs.Marks.{At, invokes, invoked_at, want_in, want_of, op_of}
 use Rattle.hm_order.specs.Legal.{IsWellFormed, WritesAt, IsSeen}
-use Rattle.hm_order.proofs.Lists.{first_at, first_le}
 use Rattle.hm_order.proofs.Positions.{invoke_found, invoked_le}
 use Rattle.hm_order.proofs.Growth.{want_invoked}
 use Rattle.hm_due_law.specs.Tidy.{HasWrite}
-use Rattle.hm_due_law.specs.Declared.{op_of, wanted, WasInvoked}
+use Rattle.hm_due_law.specs.Declared.{wanted, WasInvoked}
 use Rattle.hm_due_law.specs.Answers.{IsDueNow, IsFresh}
 
 -- ---- what an operation was invoked for
-
-first_later : {A : Type 0} (p : A → Bool) {xs ys : List A} → IsPrefix xs ys → position_or_len p xs < length xs → position_or_len p ys ≡ position_or_len p xs
-first_later {A} p {xs} {ys} f l =
-    let old : (x : A) × At xs (position_or_len p xs) x × (p x ≡ true) = first_at p xs l in
-    let le : position_or_len p ys ≤ position_or_len p xs = first_le p ys (position_or_len p xs) old.0 (prefix_at (position_or_len p xs) old.0 f old.1) old.2 in
-    let m : length xs ≤ length ys = prefix-length f in
-    let new : (x : A) × At ys (position_or_len p ys) x × (p x ≡ true) = first_at p ys (omega arith) in
-    let ge : position_or_len p xs ≤ position_or_len p ys = first_le p xs (position_or_len p ys) new.0 (prefix_at_back (position_or_len p ys) new.0 f (omega arith) new.1) new.2 in
-    omega arith
 
 pub invoked_later : {h h' : List Mark} (op : OpId) → IsPrefix h h' → invoked_at h op < length h → invoked_at h' op ≡ invoked_at h op
 invoked_later op f l = first_later (invokes op) f l
@@ -80,6 +70,7 @@ module _ {h h' : List Mark} (f : IsPrefix h h') (formed : IsWellFormed h) (op : 
 
   pub due_later : (reply : Stamp × Answer) → IsDueNow h op reply → IsDueNow h' op reply
   due_later reply d = record {
+    invoked = (let e : invoked_at h' op ≡ invoked_at h op = invoked_later op f l in omega (arith, prefix-length f));
     wrote = λ object value w. d.wrote object value (want_before op (Write object value) f l w);
     committed = λ object value w. committed (d.committed object value (want_before op (Write object value) f l w));
     nothing = λ object w z. d.nothing object (want_before op (Read object) f l w) z;
@@ -101,7 +92,7 @@ module _ {h h' : List Mark} (f : IsPrefix h h') (formed : IsWellFormed h) (op : 
             write = record { writer = s.write.writer; stamp = s.write.stamp; value = s.write.value; commit = prefix_at s.place (Commit s.write.writer s.write.stamp) f s.write.commit; want = want_later s.write.writer (Write object s.write.value) f s.write.want };
             earlier = omega (arith, prefix-length f);
             same = s.same;
-            found = s.found;
+            answered = s.answered;
             last = λ i x b. after_invoke object (λ i. s.place < i) (λ i x b. s.last i x b) i x b;
           }
 

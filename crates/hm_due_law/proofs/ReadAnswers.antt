@@ -18,10 +18,11 @@ use Rattle.hm_base.proofs.StampLaws.{at_most_then, then_below, not_below, below_
 use Rattle.hm_order.specs.declared.mark.Mark.{Mark}
 use Rattle.hm_order.specs.declared.mark.Mark.TheVariants.{Commit}
 use Rattle.hm_order.specs.declared.mark.Want.TheVariants.{Read, Write}
-use Rattle.hm_order.specs.Marks.{At, invoked_at, want_of}
+use Rattle.hm_order.specs.Marks.{At, invoked_at, want_of, op_of}
 use Rattle.hm_order.specs.Legal.{WritesAt}
+use Rattle.hm_order.proofs.Growth.{want_invoked}
 use Rattle.hm_due_law.specs.Tidy.{IsTidy, HasWrite}
-use Rattle.hm_due_law.specs.Declared.{op_of, wanted, WasInvoked, Records, LooksComeFirst, NoneAbove}
+use Rattle.hm_due_law.specs.Declared.{wanted, WasInvoked, Records, LooksComeFirst, NoneAbove}
 use Rattle.hm_due_law.specs.Answers.{IsDueNow, IsFresh}
 use Rattle.hm_due_law.proofs.Tidies.{tidy_at, tidy_reached, tidy_prefix}
 use Rattle.hm_due_law.proofs.Commits.{write_has_commit}
@@ -139,6 +140,7 @@ put_wanted n Look e = absurd (cc)
 
 pub completion_due : (h : List Mark) (k : List Entry) (i : ℕ) (e : Entry) → Records h k → At k i e → is_write e ≡ true → IsDueNow h (op_of e) (e.stamp, Wrote)
 completion_due h k i e r there writes = record {
+  invoked = want_invoked h (op_of e) (wanted e.object e.act) (each_at (WasInvoked h) k i e r.invoked there);
   wrote = λ object value w. refl;
   committed = λ object value w. (commit.0, slice_get_within h commit.0 (Commit (op_of e) e.stamp) commit.1, commit.1);
   nothing = λ object w z. absurd (no_read object w);

@@ -12,9 +12,8 @@ use Rattle.hm_base.specs.Logs.{is_write, end_stamp}
 use Rattle.hm_base.specs.Stamps.{least, same_stamp, stamp_lt, ◌≼◌, ◌≺◌}
 use Rattle.hm_base.proofs.StampLaws.{same_stamp_is, same_stamp_self, at_most_same, at_most_then, below_at_most, at_most_both, then_below, not_below, at_most_or_above}
 use Rattle.hm_base.proofs.ListLaws.{prefix_at_back}
-use Rattle.hm_order.specs.Marks.{At}
+use Rattle.hm_order.specs.Marks.{At, op_of}
 use Rattle.hm_due_law.specs.Tidy.{may_follow, StampsRise, comes_later, AllLater, RequestsRise, IsTidy, HasWrite}
-use Rattle.hm_due_law.specs.Declared.{op_of}
 
 -- ---- one entry behind a stamp
 

@@ -1,21 +1,18 @@
 -- How a history goes with the declared list, the entries that are committed for good.
-use Rattle.std.specs.Prelude.{◌≡◌, ℕ, ◌≤◌, Bool, true, false, List, filter, map, Some, All}
+use Rattle.std.specs.Prelude.{◌≡◌, ℕ, ◌≤◌, Bool, true, false, List, filter, Some, All}
 use Rattle.hm_base.specs.declared.stamp.Stamp.{Stamp}
 use Rattle.hm_base.specs.declared.entry.Entry.{Entry}
 use Rattle.hm_base.specs.declared.entry.Act.{Act}
 use Rattle.hm_base.specs.declared.entry.Act.TheVariants.{Put, Look}
 use Rattle.hm_base.specs.declared.operation.OpId.{OpId}
-use Rattle.hm_base.specs.Logs.{is_write, writes}
+use Rattle.hm_base.specs.Logs.{is_write}
 use Rattle.hm_base.specs.Stamps.{◌≺◌}
 use Rattle.hm_order.specs.declared.mark.Mark.{Mark}
 use Rattle.hm_order.specs.declared.mark.Mark.TheVariants.{Invoke, Commit, Reply}
 use Rattle.hm_order.specs.declared.mark.Want.{Want}
 use Rattle.hm_order.specs.declared.mark.Want.TheVariants.{Read, Write}
-use Rattle.hm_order.specs.Marks.{At, invoked_at, want_of}
+use Rattle.hm_order.specs.Marks.{At, op_of, commits_for, invoked_at, want_of}
 use Rattle.hm_due_law.specs.Tidy.{IsTidy}
-
-abbrev pub op_of : Entry → OpId
-op_of e = record { client = e.client; request = e.request }
 
 abbrev pub wanted : ℕ → Act → Want
 wanted object (Put value) = Write object value
@@ -25,9 +22,6 @@ wanted object Look = Read object
 abbrev pub WasInvoked : List Mark → Entry → Type 0
 WasInvoked history e = want_of history (op_of e) ≡ Some (wanted e.object e.act)
 
-abbrev pub commit_mark : Entry → Mark
-commit_mark e = Commit (op_of e) e.stamp
-
 abbrev pub is_commit : Mark → Bool
 is_commit (Invoke op want) = false
 is_commit (Commit op stamp) = true
@@ -36,10 +30,6 @@ is_commit (Reply op version answer) = false
 -- the Commits of a history, in order
 abbrev pub commit_marks : List Mark → List Mark
 commit_marks history = filter is_commit history
-
--- the Commits that entries give: one for each write, in order
-abbrev pub commits_for : List Entry → List Mark
-commits_for log = map commit_mark (writes log)
 
 -- The history's Commits are those of the declared list, which is tidy, and whose operations were all invoked.
 pub record Records (history : List Mark) (declared : List Entry) : Type 0 where

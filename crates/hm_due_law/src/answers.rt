@@ -8,9 +8,9 @@ ghost use Rattle.hm_base.specs.Lists.{IsPrefix};
 ghost use Rattle.hm_base.specs.Logs.{is_write, latest, read_ahead, read_behind};
 ghost use Rattle.hm_order.specs.declared.mark.Mark.{Mark};
 ghost use Rattle.hm_order.specs.declared.mark.Want.TheVariants.{Read};
-ghost use Rattle.hm_order.specs.Marks.{At, want_of};
+ghost use Rattle.hm_order.specs.Marks.{At, want_of, op_of};
 ghost use Rattle.hm_due_law.specs.Tidy.{IsTidy, HasWrite};
-ghost use Rattle.hm_due_law.specs.Declared.{op_of, Records, LooksComeFirst, NoneAbove};
+ghost use Rattle.hm_due_law.specs.Declared.{Records, LooksComeFirst, NoneAbove};
 ghost use Rattle.hm_due_law.specs.Answers.{IsDueNow, PrefixAnswer, IsFresh};
 
 /// A read may be answered from a prefix of the declared list where no write of its object that lies beyond the prefix was

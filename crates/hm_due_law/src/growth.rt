@@ -8,10 +8,10 @@ ghost use Rattle.hm_order.specs.declared.mark.Mark.{Mark};
 ghost use Rattle.hm_order.specs.declared.mark.Mark.TheVariants.{Invoke, Reply};
 ghost use Rattle.hm_order.specs.declared.mark.Want.{Want};
 ghost use Rattle.hm_order.specs.declared.mark.Want.TheVariants.{Read};
-ghost use Rattle.hm_order.specs.Marks.{invoked_at, replied_at, want_of};
+ghost use Rattle.hm_order.specs.Marks.{invoked_at, replied_at, want_of, commits_for};
 ghost use Rattle.hm_order.specs.Legal.{IsWellFormed, IsDue};
 ghost use Rattle.hm_due_law.specs.Tidy.{IsTidy, HasWrite};
-ghost use Rattle.hm_due_law.specs.Declared.{WasInvoked, Records, commits_for};
+ghost use Rattle.hm_due_law.specs.Declared.{WasInvoked, Records};
 ghost use Rattle.hm_due_law.specs.Answers.{IsDueNow, IsFresh, IsClean};
 ghost use Rattle.hm_due_law.specs.Agreed.{Agree};
 

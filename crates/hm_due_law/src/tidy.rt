@@ -6,8 +6,7 @@ ghost use Rattle.hm_base.specs.Lists.{IsPrefix};
 ghost use Rattle.hm_base.specs.Logs.{is_write, end_stamp};
 ghost use Rattle.hm_base.specs.Stamps.{◌≼◌};
 ghost use Rattle.hm_base.specs.Verdicts.{admission, judge};
-ghost use Rattle.hm_order.specs.Marks.{At};
-ghost use Rattle.hm_due_law.specs.Declared.{op_of};
+ghost use Rattle.hm_order.specs.Marks.{At, op_of};
 ghost use Rattle.hm_due_law.specs.Tidy.{IsTidy};
 
 /// A prefix of a tidy list is tidy.

@@ -4,5 +4,3 @@
 pub mod follower;
 mod quorum;
 pub mod sender;
-#[cfg(test)]
-mod tests;

@@ -90,21 +90,3 @@ impl Sender {
         held_by(self, members, me, k)
     }
 }
-
-#[cfg(test)]
-mod tests {
-    use super::*;
-    use std::test::Fail;
-
-    #[test]
-    fn notes_what_is_acknowledged(rt: HostRuntime) -> Result<(), Fail> {
-        let mut sender = Sender::open(0, 0);
-        assert!(rt; sender.note(1, 3));
-        assert!(rt; !sender.note(1, 2));
-        assert_eq!(rt; sender.acked(1), 3);
-        let mut members = Members::first(0).ok_or("a member")?;
-        members.try_push(1)?;
-        assert_eq!(rt; sender.held_by(&members, 0, 1), 3);
-        Ok(())
-    }
-}

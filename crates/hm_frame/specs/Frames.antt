@@ -3,9 +3,9 @@ use Rattle.std.specs.Prelude.{◌≡◌, ℕ, Bool, true, false, ◌+◌, ◌<�
 use Rattle.std.specs.Int.{w16, to_be_bytes, from_be_bytes}
 use Rattle.hm_packet.specs.Messages.{Message}
 use Rattle.hm_packet.specs.Texts.{packet_text}
-use Rattle.hm_codec.specs.Packets.{spelling, first_fault, HasSpelling}
-use Rattle.hm_codec.specs.declared.malformed.Malformed.{Malformed}
-use Rattle.hm_codec.specs.declared.malformed.Reason.TheVariants.{Length}
+use Rattle.hm_wire.specs.Packets.{spelling, first_fault, HasSpelling}
+use Rattle.hm_wire.specs.declared.malformed.Malformed.{Malformed}
+use Rattle.hm_wire.specs.declared.malformed.Reason.TheVariants.{Length}
 use Rattle.hm_frame.specs.declared.frame.TheConstants.{MAX_PAYLOAD_LEN, HEAD_LEN}
 
 -- how many bytes a frame has at most behind its length, and how many its length takes

@@ -2,15 +2,15 @@ ghost use Rattle.std.specs.Prelude.{◌≡◌, ◌<◌, ◌≤◌, ◌↔◌, []
 ghost use Rattle.std.specs.Int.{w16, to_be_bytes};
 ghost use Rattle.hm_base.specs.Lists.{IsPrefix};
 ghost use Rattle.hm_frame.specs.Frames.{head_len, max_payload_len, frame, payload_len, IsPart, IsAtFault, Answers, HasFrame, Tells};
-ghost use Rattle.hm_codec.specs.declared.malformed.Malformed.{Malformed};
+ghost use Rattle.hm_wire.specs.declared.malformed.Malformed.{Malformed};
 
 use bytes::BytesMut;
 use hm_base::memory::NoMemory;
 use hm_codec::buf::{Buf, MAX_LEN};
 use hm_codec::decode::decode;
 use hm_codec::encode::encode;
-use hm_codec::malformed::{Malformed, Reason};
-use hm_codec::text::write_spelled;
+use hm_wire::malformed::{Malformed, Reason};
+use hm_wire_text::text::write_spelled;
 use hm_packet::packet::Packet;
 use std::alloc::Global;
 use std::marker::Model;

@@ -1,10 +1,10 @@
 ghost use Rattle.std.specs.Prelude.{◌≡◌, ◌++◌, ℕ, List, [], flat_map};
 ghost use Rattle.hm_packet.specs.Messages.{Message};
-ghost use Rattle.hm_codec.specs.Packets.{HasSpelling};
-ghost use Rattle.hm_codec.specs.declared.malformed.Malformed.{Malformed};
+ghost use Rattle.hm_wire.specs.Packets.{HasSpelling};
+ghost use Rattle.hm_wire.specs.declared.malformed.Malformed.{Malformed};
 ghost use Rattle.hm_frame.specs.Frames.{frame, IsAtFault, Call, Calls, fed, given, IsStuck};
 
-use hm_codec::laws::{spelling_has_no_fault, spelling_is_short, spelling_tells_the_packet};
+use hm_wire::laws::{spelling_has_no_fault, spelling_is_short, spelling_tells_the_packet};
 
 /// Bytes begin with one frame at most, and that is there to its end and has no fault.
 pub fn bytes_begin_with_one_frame()

@@ -1,7 +1,7 @@
 use crate::frame::{Unframer, frame};
 use hm_base::node::Node;
 use hm_codec::buf::Buf;
-use hm_codec::malformed::{Malformed, Reason};
+use hm_wire::malformed::{Malformed, Reason};
 use hm_packet::body::{Body, Read};
 use hm_packet::packet::Packet;
 use std::alloc::Global;

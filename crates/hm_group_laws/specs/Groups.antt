@@ -1,7 +1,10 @@
 -- What holds of a world, whatever its protocol.
-use Rattle.std.specs.Prelude.{◌≡◌}
+use Rattle.std.specs.Prelude.{◌≡◌, List}
 use Rattle.hm_base.specs.declared.node.GroupKind.{GroupKind}
 use Rattle.hm_base.specs.declared.node.GroupKind.TheVariants as kind
+use Rattle.hm_order.specs.declared.mark.Mark.{Mark}
+use Rattle.hm_order.specs.Legal.{IsWellFormed, AllDue, IsLegal}
+use Rattle.hm_order.specs.Order.{order}
 use Rattle.hm_rules.specs.Events.{Setup}
 use Rattle.hm_rules.specs.World.{World}
 use Rattle.hm_core_laws.specs.Core.{Core}
@@ -25,3 +28,9 @@ pub record IsSound (w : World) : Type 0 where
 -- a group of Viewstamped Replication has an odd size
 abbrev pub CanForm : Setup → Type 0
 CanForm setup = setup.kind ≡ kind.Vr → HasQuorums setup.size
+
+-- the history is well formed, each of its replies is due, and its order explains it
+pub record IsLinearizable (history : List Mark) : Type 0 where
+  pub formed : IsWellFormed history
+  pub due : AllDue history
+  pub legal : IsLegal history (order history)

@@ -1,4 +1,5 @@
-ghost use Rattle.std.specs.Prelude.{ℕ, Bool, List};
+ghost use Rattle.std.specs.Prelude.{◌≡◌, ℕ, Bool, List};
+ghost use Rattle.hm_base.specs.declared.node.GroupKind.TheVariants.{Chain, Primary, Vr};
 ghost use Rattle.hm_order.specs.Legal.{IsWellFormed, AllDue, IsLegal};
 ghost use Rattle.hm_order.specs.Order.{order};
 ghost use Rattle.hm_rules.specs.Events.{Setup, Event};
@@ -6,9 +7,10 @@ ghost use Rattle.hm_rules.specs.World.{World, opens};
 ghost use Rattle.hm_rules.specs.Happens.{happens};
 ghost use Rattle.hm_rules.specs.Runs.{run};
 ghost use Rattle.hm_core_laws.specs.Owed.{StepsSound};
-ghost use Rattle.hm_group_laws.specs.Groups.{CanForm, IsSound};
+ghost use Rattle.hm_vr_laws.specs.Voted.{HasQuorums};
+ghost use Rattle.hm_group_laws.specs.Groups.{CanForm, IsLinearizable, IsSound};
 
-use hm_chain_laws::chain::{chain_stays_sound, sound_world_is_ready};
+use hm_chain_laws::chain::{chain_goes_on, chain_holds_at_first, chain_steps_are_sound};
 use hm_core_laws::events::{
     core_explains_history, core_holds_at_first, events_are_changes, events_keep_core,
 };
@@ -23,9 +25,9 @@ use hm_vr_laws::vr::{vr_goes_on, vr_holds_at_first, vr_steps_are_sound};
 pub fn sound_group_is_ready()
     ensures { (w : World) → IsSound w → StepsSound w }
 {
-    sound_world_is_ready();
-    primary_steps_are_sound();
     one_switch_is_accepted();
+    chain_steps_are_sound();
+    primary_steps_are_sound();
     vr_steps_are_sound();
 }
 
@@ -36,14 +38,15 @@ pub fn group_stays_sound()
 {
     core_holds_at_first();
     replacement_holds_at_first();
+    chain_holds_at_first();
     primary_holds_at_first();
     vr_holds_at_first();
-    chain_stays_sound();
     events_are_changes();
     events_keep_core();
     events_keep_replacement();
     one_switch_is_accepted();
     sound_group_is_ready();
+    chain_goes_on();
     primary_goes_on();
     vr_goes_on();
 }
@@ -60,4 +63,28 @@ pub fn every_group_is_linearizable()
 {
     group_stays_sound();
     core_explains_history();
+}
+
+/// A chain of any length is linearizable (van Renesse and Schneider, with Harmonia's reads at every member).
+pub fn chain_is_linearizable()
+    ensures { (setup : Setup) (es : List Event) (refused : List ℕ) → setup.kind ≡ Chain → IsLinearizable (run (opens setup) es refused).history }
+{
+    every_group_is_linearizable();
+}
+
+/// A primary with any number of backups is linearizable, whoever of them stops.
+pub fn primary_is_linearizable()
+    ensures { (setup : Setup) (es : List Event) (refused : List ℕ) → setup.kind ≡ Primary → IsLinearizable (run (opens setup) es refused).history }
+{
+    every_group_is_linearizable();
+}
+
+/// A group of Viewstamped Replication of odd size is linearizable, whoever times out and whatever views follow.
+pub fn vr_is_linearizable()
+    ensures { (setup : Setup) (es : List Event) (refused : List ℕ)
+        → setup.kind ≡ Vr
+        → HasQuorums setup.size
+        → IsLinearizable (run (opens setup) es refused).history }
+{
+    every_group_is_linearizable();
 }

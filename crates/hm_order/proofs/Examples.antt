@@ -109,12 +109,13 @@ late_seen = record {
   write = record { writer = op 7 1; stamp = stamp 1 1; value = 97 ∷ []; commit = refl; want = refl };
   earlier = omega arith;
   same = refl;
-  found = refl;
+  answered = refl;
   last = none_between;
 }
 
 late_due : IsDue late6 6 (op 9 1) (stamp 1 1) (Found (97 ∷ []))
 late_due = record {
+  invoked = omega arith;
   wrote = λ object value w. absurd (cc);
   committed = λ object value w. absurd (cc);
   nothing = λ object w z. absurd (grind arith);
@@ -140,13 +141,13 @@ due5 = all_due_push late4 (Invoke (op 7 2) (Write 5 (98 ∷ []))) formed4 due4 (
 due6 : AllDue late6
 due6 = all_due_push late5 (Commit (op 7 2) (stamp 1 2)) formed5 due5 (λ o v a t. absurd (cc))
 
-replied : (o : OpId) (v : Stamp) (a : Answer) → Some (Reply (op 9 1) (stamp 1 1) (Found (97 ∷ []))) ≡ Some (Reply o v a) → (invoked_at late6 o < 6) × IsDue late6 6 o v a
-replied o v a t = subst (λ (m : Mark). Due_of m) (same_Some _ _ t) (omega arith, late_due)
+replied : (o : OpId) (v : Stamp) (a : Answer) → Some (Reply (op 9 1) (stamp 1 1) (Found (97 ∷ []))) ≡ Some (Reply o v a) → IsDue late6 6 o v a
+replied o v a t = subst (λ (m : Mark). Due_of m) (same_Some _ _ t) late_due
   where
     Due_of : Mark → Type 0
     Due_of (Invoke o w) = Unit {0}
     Due_of (Commit o s) = Unit {0}
-    Due_of (Reply o v a) = (invoked_at late6 o < 6) × IsDue late6 6 o v a
+    Due_of (Reply o v a) = IsDue late6 6 o v a
 
 all_due : AllDue late
 all_due = all_due_push late6 (Reply (op 9 1) (stamp 1 1) (Found (97 ∷ []))) formed6 due6 replied

@@ -16,8 +16,9 @@ use Rattle.hm_base.specs.Stamps.{same_stamp, least}
 use Rattle.hm_order.specs.Marks.{At, commits_with, invoked_at, committed_at, version_at, want_of, version_of}
 use Rattle.hm_order.specs.Order.{read_after, read_place, order}
 use Rattle.hm_order.specs.Legal.{after_op, stored, IsLegal, IsWellFormed, WritesAt, IsSeen, AllDue}
-use Rattle.hm_order.proofs.Lists.{at_within, at_same, each_at, ordered_at, at_contains, first_at, first_le}
+use Rattle.hm_order.proofs.Lists.{at_within, at_same, each_at, ordered_at, at_contains}
 use Rattle.hm_base.proofs.StampLaws.{same_stamp_is, same_stamp_self}
+use Rattle.hm_base.proofs.ListLaws.{first_at, first_le}
 use Rattle.hm_order.proofs.Positions.{commit_found, invoke_found, invoked_is, want_is, committed_is, version_is}
 use Rattle.hm_order.proofs.Ranks.{rank, place_read, rank_committed, rank_read, read_placed, Before, order_ordered, order_ranks, order_contains}
 
@@ -240,7 +241,7 @@ module _ (h : List Mark) (formed : IsWellFormed h) (due : AllDue h) where
       let s : version_at h seen.write.stamp ≡ version_at h version = ap (version_at h) seen.same in
       let q : (c : ℕ) × At (order h) c writer = at_contains (order h) writer (order_contains h writer (omega arith)) in
       let before : q.0 < k = before_by_rank h q.0 k writer op q.1 p (omega arith) in
-      seen.found ∙ sym (stored_last h object Nothing (take k (order h)) q.0 writer seen.write.value (take_keeps k (order h) q.0 writer q.1 before) seen.write.want
+      seen.answered ∙ sym (stored_last h object Nothing (take k (order h)) q.0 writer seen.write.value (take_keeps k (order h) q.0 writer q.1 before) seen.write.want
       (λ l y u later g wy. none_between q.0 q.1 l y u later (at_take k (order h) l y g) wy))
     where
       none_between : (c : ℕ) → At (order h) c seen.write.writer → (l : ℕ) (y : OpId) (u : List ℕ) → c < l → (l < k) × At (order h) l y → want_of h y ≡ Some (Write object u) → ⊥

@@ -13,27 +13,13 @@ use Rattle.hm_order.specs.declared.mark.Want.{Want}
 use Rattle.hm_order.specs.declared.mark.Want.TheVariants.{Read, Write}
 use Rattle.hm_base.specs.declared.operation.Answer.{Answer}
 use Rattle.hm_base.specs.Stamps.{least}
+use Rattle.hm_base.proofs.ListLaws.{at_push, at_push_cases, at_last}
 use Rattle.hm_order.specs.Marks.{At, invokes, invoked_at, committed_at, replied_at, want_in, want_of}
 use Rattle.hm_order.specs.Legal.{IsWellFormed, WritesAt, IsSeen, IsDue, AllDue}
 use Rattle.hm_order.proofs.Lists.{at_within}
 use Rattle.hm_order.proofs.Positions.{invoke_found, invoked_le, committed_le, replied_le}
 
 -- ---- positions
-
-pub at_push : {A : Type 0} (xs : List A) (x : A) (i : ℕ) (y : A) → At xs i y → At (xs ++ x ∷ []) i y
-at_push [] x i y e = absurd (none-some y e)
-at_push (z ∷ xs) x zero y e = e
-at_push (z ∷ xs) x (suc i) y e = at_push xs x i y e
-
-pub at_push_cases : {A : Type 0} (xs : List A) (x : A) (i : ℕ) (y : A) → At (xs ++ x ∷ []) i y → At xs i y ⊎ ((i ≡ length xs) × (Some x ≡ Some y))
-at_push_cases [] x zero y e = inr (refl, e)
-at_push_cases [] x (suc i) y e = absurd (none-some y e)
-at_push_cases (z ∷ xs) x zero y e = inl e
-at_push_cases (z ∷ xs) x (suc i) y e = elim (at_push_cases xs x i y e) [ inl old ↦ inl old | inr new ↦ inr (ap suc new.0, new.1) ]
-
-pub at_last : {A : Type 0} (xs : List A) (x : A) → At (xs ++ x ∷ []) (length xs) x
-at_last [] x = refl
-at_last (z ∷ xs) x = at_last xs x
 
 get_push : {A : Type 0} (xs : List A) (x : A) (i : ℕ) → i < length xs → slice_get (xs ++ x ∷ []) i ≡ slice_get xs i
 get_push [] x i l = absurd (omega arith)
@@ -76,6 +62,7 @@ unfolding writes_push
 due_push h m i j op version answer formed n le d =
     let before : (want : Want) → want_of (h ++ m ∷ []) op ≡ Some want → want_of h op ≡ Some want = λ want w. sym (want_push h m op n) ∙ w in
     record {
+      invoked = (let b : invoked_at h op < i = d.invoked in let e : invoked_at (h ++ m ∷ []) op ≡ invoked_at h op = invoked_push h m op n in omega arith);
       wrote = λ object value w. d.wrote object value (before (Write object value) w);
       committed = λ object value w. committed_later object value (d.committed object value (before (Write object value) w));
       nothing = λ object w z. d.nothing object (before (Read object) w) z;
@@ -102,7 +89,7 @@ due_push h m i j op version answer formed n le d =
           write = writes_push h m object s.place s.write;
           earlier = omega arith;
           same = s.same;
-          found = s.found;
+          answered = s.answered;
           last = λ k x less. (
               let e : invoked_at (h ++ m ∷ []) op ≡ invoked_at h op = invoked_push h m op n in
               elim (cases_lt k (length h)) [
@@ -121,11 +108,11 @@ replied_invoked h formed i op version answer e =
 
 -- The mark is an Invoke or a Commit, or the Reply is due in the history before it.
 pub all_due_push : (h : List Mark) (m : Mark) → IsWellFormed h → AllDue h
-    → ((op : OpId) (version : Stamp) (answer : Answer) → Some m ≡ Some (Reply op version answer) → (invoked_at h op < length h) × IsDue h (length h) op version answer)
+    → ((op : OpId) (version : Stamp) (answer : Answer) → Some m ≡ Some (Reply op version answer) → IsDue h (length h) op version answer)
     → AllDue (h ++ m ∷ [])
 all_due_push h m formed due new i op version answer e = elim (at_push_cases h m i (Reply op version answer) e) [
   | inl old ↦ due_push h m i i op version answer formed (replied_invoked h formed i op version answer old) (omega arith) (due i op version answer old)
-  | inr here ↦ let d = new op version answer here.1 in due_push h m (length h) i op version answer formed d.0 (let s : i ≡ length h = here.0 in omega arith) d.1
+  | inr here ↦ let d = new op version answer here.1 in due_push h m (length h) i op version answer formed d.invoked (let s : i ≡ length h = here.0 in omega arith) d
 ]
 
 -- ---- the history stays well formed

@@ -8,9 +8,10 @@ use Rattle.hm_order.specs.declared.mark.Mark.TheVariants.{Invoke, Commit, Reply}
 use Rattle.hm_base.specs.declared.operation.OpId.{OpId}
 use Rattle.hm_order.specs.declared.mark.Want.{Want}
 use Rattle.hm_base.specs.declared.operation.Answer.{Answer}
+use Rattle.hm_base.proofs.ListLaws.{first_at, first_le}
 use Rattle.hm_order.specs.Marks.{At, same_op, invokes, commits, replies, invoked_at, committed_at, replied_at, want_in, want_of, version_in, version_of}
 use Rattle.hm_order.specs.Legal.{IsWellFormed}
-use Rattle.hm_order.proofs.Lists.{at_within, first_at, first_le}
+use Rattle.hm_order.proofs.Lists.{at_within}
 
 pub same_op_is : (a b : OpId) → same_op a b ≡ true → a ≡ b
 same_op_is a b t =

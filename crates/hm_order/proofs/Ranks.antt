@@ -8,11 +8,12 @@ use Rattle.hm_base.specs.declared.stamp.Stamp.{Stamp}
 use Rattle.hm_order.specs.declared.mark.Mark.{Mark}
 use Rattle.hm_order.specs.declared.mark.Mark.TheVariants.{Invoke, Commit, Reply}
 use Rattle.hm_base.specs.declared.operation.OpId.{OpId}
+use Rattle.hm_base.proofs.ListLaws.{at_filter}
 use Rattle.hm_order.specs.declared.mark.Want.{Want}
 use Rattle.hm_order.specs.declared.mark.Want.TheVariants.{Read, Write}
 use Rattle.hm_order.specs.Marks.{At, is_committed, invoked_at, committed_at, version_at, want_of, version_of}
 use Rattle.hm_order.specs.Order.{read_after, read_place, invoke_here, invoked, reads_after, commit_here, stands_here, order}
-use Rattle.hm_order.proofs.Lists.{Each, Ordered, each_append, each_weaker, each_across, each_passes, ordered_append, ordered_weaker, ordered_filter, filter_contains, contains_at, at_contains}
+use Rattle.hm_order.proofs.Lists.{Each, Ordered, each_append, each_weaker, each_across, each_passes, ordered_append, ordered_weaker, ordered_filter, contains_at, at_contains}
 use Rattle.hm_order.proofs.Gathered.{IsFrom, gather_contains, gather_each, gather_ordered}
 use Rattle.hm_order.proofs.Positions.{invoke_found, commit_found}
 
@@ -129,7 +130,7 @@ read_stands h op k i l e =
     let f : (want : Want) × At h (invoked_at h op) (Invoke op want) = invoke_found h op i in
     let mark = get_or h k (Invoke op f.0) in
     let known : (j : ℕ) × At (invoked h) j op = at_contains (invoked h) op (invoked_contains h op i) in
-    let kept : (j : ℕ) × At (reads_after h (k + 1)) j op = filter_contains (λ x. nat_eq (read_place h x) (k + 1)) (invoked h) known.0 op known.1 (eq-eqb _ _ e) in
+    let kept : (j : ℕ) × At (reads_after h (k + 1)) j op = at_filter (λ x. nat_eq (read_place h x) (k + 1)) (invoked h) known.0 op known.1 (eq-eqb _ _ e) in
     gather_contains (stands_here h) h 0 k k mark op (slice_get-get_or h k (Invoke op f.0) l) (omega arith)
     (Contains-append_right (commit_here h k mark) (reads_after h (k + 1)) op (contains_at (reads_after h (k + 1)) kept.0 op kept.1))
 

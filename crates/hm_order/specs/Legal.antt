@@ -7,7 +7,8 @@ use Rattle.hm_base.specs.declared.operation.OpId.{OpId}
 use Rattle.hm_order.specs.declared.mark.Want.{Want}
 use Rattle.hm_order.specs.declared.mark.Want.TheVariants.{Read, Write}
 use Rattle.hm_base.specs.declared.operation.Answer.{Answer}
-use Rattle.hm_base.specs.declared.operation.Answer.TheVariants.{Wrote, Nothing, Found}
+use Rattle.hm_base.specs.declared.operation.Answer.TheVariants.{Wrote, Nothing}
+use Rattle.hm_base.specs.Logs.{found}
 use Rattle.hm_base.specs.Stamps.{least}
 use Rattle.hm_order.specs.Marks.{At, invoked_at, want_of}
 
@@ -15,7 +16,7 @@ use Rattle.hm_order.specs.Marks.{At, invoked_at, want_of}
 abbrev pub after_op : ℕ → Answer → Option Want → Answer
 after_op object answer None = answer
 after_op object answer (Some (Read other)) = answer
-after_op object answer (Some (Write other value)) = if nat_eq other object then Found value else answer
+after_op object answer (Some (Write other value)) = if nat_eq other object then found value else answer
 
 -- the same after more ops in a row
 abbrev pub stored : List Mark → ℕ → Answer → List OpId → Answer
@@ -56,12 +57,13 @@ pub record IsSeen (history : List Mark) (i object : ℕ) (reader : OpId) (versio
   pub write : WritesAt history object place
   pub earlier : place < i
   pub same : write.stamp ≡ version
-  pub found : answer ≡ Found write.value
+  pub answered : answer ≡ found write.value
   -- no other one before the read's Invoke
   pub last : (k : ℕ) → WritesAt history object k → place < k → invoked_at history reader ≤ k
 
--- a Reply at i says what it may say
+-- a Reply at i is to an op that was invoked before, and says what it may say
 pub record IsDue (history : List Mark) (i : ℕ) (op : OpId) (version : Stamp) (answer : Answer) : Type 0 where
+  pub invoked : invoked_at history op < i
   pub wrote : (object : ℕ) (value : List ℕ) → want_of history op ≡ Some (Write object value) → answer ≡ Wrote
   pub committed : (object : ℕ) (value : List ℕ) → want_of history op ≡ Some (Write object value) → (k : ℕ) × (k < i) × At history k (Commit op version)
   pub nothing : (object : ℕ) → want_of history op ≡ Some (Read object) → version ≡ least → answer ≡ Nothing

@@ -1,7 +1,9 @@
 -- Where the marks of a history stand.
-use Rattle.std.specs.Prelude.{◌≡◌, ℕ, Bool, false, ◌&&◌, ◌==◌, if◌then◌else◌, List, length, nat_lt, Option, Some, None, slice_get}
+use Rattle.std.specs.Prelude.{◌≡◌, ℕ, Bool, false, ◌&&◌, ◌==◌, if◌then◌else◌, List, length, map, nat_lt, Option, Some, None, slice_get}
 use Rattle.std.specs.List.{position_or_len}
 use Rattle.hm_base.specs.declared.stamp.Stamp.{Stamp}
+use Rattle.hm_base.specs.declared.entry.Entry.{Entry}
+use Rattle.hm_base.specs.Logs.{writes}
 use Rattle.hm_base.specs.Stamps.{least, same_stamp}
 use Rattle.hm_order.specs.declared.mark.Mark.{Mark}
 use Rattle.hm_order.specs.declared.mark.Mark.TheVariants.{Invoke, Commit, Reply}
@@ -34,6 +36,18 @@ abbrev pub replies : OpId → Mark → Bool
 replies op (Invoke other want) = false
 replies op (Commit other stamp) = false
 replies op (Reply other version answer) = same_op op other
+
+-- the operation that an entry is of
+abbrev pub op_of : Entry → OpId
+op_of e = record { client = e.client; request = e.request }
+
+-- the mark of an entry that is committed
+abbrev pub commit_of : Entry → Mark
+commit_of e = Commit (op_of e) e.stamp
+
+-- the marks of entries that are committed: one for each write, in order; a logged read gives none
+abbrev pub commits_for : List Entry → List Mark
+commits_for entries = map commit_of (writes entries)
 
 -- The position of an op's first Invoke, first Commit, first Reply. It is the number of marks where there is none.
 abbrev pub invoked_at : List Mark → OpId → ℕ

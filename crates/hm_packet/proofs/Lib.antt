@@ -1,2 +1,1 @@
 mod TextExamples
-pub mod SpacedWords

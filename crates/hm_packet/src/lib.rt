@@ -7,10 +7,8 @@ pub mod field;
 pub mod outcome;
 pub mod outs;
 pub mod packet;
-mod parts;
+pub mod parts;
 pub mod route;
-#[cfg(test)]
-mod tests;
 pub mod text;
 pub mod turn;
 pub mod words;

@@ -10,7 +10,7 @@ use hm_base::text::{write_act, write_answer, write_bytes, write_number, write_st
 use hm_base::value::Value;
 
 /// Appends a word with a space before it. Here and below, after want of memory `out` begins with what it held.
-pub(crate) fn push_word(word: &[u8], out: &mut Vec<u8>) -> Result<(), NoMemory>
+pub fn push_word(word: &[u8], out: &mut Vec<u8>) -> Result<(), NoMemory>
     ensures ok { OnOk result (out.new.items ≡ out.old.items ++ spaced (word.now ∷ [])) }
     ensures err { OnErr result (IsPrefix out.old.items out.new.items) }
 {
@@ -19,7 +19,7 @@ pub(crate) fn push_word(word: &[u8], out: &mut Vec<u8>) -> Result<(), NoMemory>
 }
 
 /// Appends a number with a space before it.
-pub(crate) fn push_number(number: u64, out: &mut Vec<u8>) -> Result<(), NoMemory>
+pub fn push_number(number: u64, out: &mut Vec<u8>) -> Result<(), NoMemory>
     ensures ok { OnOk result (out.new.items ≡ out.old.items ++ spaced (decimal number ∷ [])) }
     ensures err { OnErr result (IsPrefix out.old.items out.new.items) }
 {
@@ -46,7 +46,7 @@ pub(crate) fn push_request(request: u64, object: u32, out: &mut Vec<u8>) -> Resu
 }
 
 /// Appends a stamp with a space before it.
-pub(crate) fn push_stamp(stamp: Stamp, out: &mut Vec<u8>) -> Result<(), NoMemory>
+pub fn push_stamp(stamp: Stamp, out: &mut Vec<u8>) -> Result<(), NoMemory>
     ensures ok { OnOk result (out.new.items ≡ out.old.items ++ spaced (stamp_text stamp ∷ [])) }
     ensures err { OnErr result (IsPrefix out.old.items out.new.items) }
 {
@@ -93,7 +93,7 @@ fn push_entry(entry: &Entry, out: &mut Vec<u8>) -> Result<(), NoMemory>
 }
 
 /// Appends the number of entries and the entries' words.
-#[tactic(auto, using(crate::proofs::SpacedWords::spaced_append, crate::proofs::SpacedWords::begins_sooner, std::proofs::lemmas::Grind::common_steps))]
+#[tactic(auto, using(hm_base::proofs::ListLaws::spaced_append, hm_base::proofs::ListLaws::begins_sooner, std::proofs::lemmas::Grind::common_steps))]
 pub(crate) fn push_entries(entries: &[Entry], out: &mut Vec<u8>) -> Result<(), NoMemory>
     ensures ok { OnOk result (out.new.items ≡ out.old.items ++ spaced (entries_words entries.now)) }
     ensures err { OnErr result (IsPrefix out.old.items out.new.items) }
@@ -106,7 +106,7 @@ pub(crate) fn push_entries(entries: &[Entry], out: &mut Vec<u8>) -> Result<(), N
 }
 
 /// Appends the number of members and the members.
-#[tactic(auto, using(crate::proofs::SpacedWords::spaced_append, crate::proofs::SpacedWords::begins_sooner, std::proofs::lemmas::Grind::common_steps))]
+#[tactic(auto, using(hm_base::proofs::ListLaws::spaced_append, hm_base::proofs::ListLaws::begins_sooner, std::proofs::lemmas::Grind::common_steps))]
 pub(crate) fn push_members(members: &[u8], out: &mut Vec<u8>) -> Result<(), NoMemory>
     ensures ok { OnOk result (out.new.items ≡ out.old.items ++ spaced (members_words members.now)) }
     ensures err { OnErr result (IsPrefix out.old.items out.new.items) }

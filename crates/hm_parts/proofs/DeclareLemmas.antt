@@ -8,8 +8,9 @@ use Rattle.std.proofs.Math.Seq.{drop-append_seam, take-add}
 use Rattle.hm_base.specs.declared.entry.Entry.{Entry}
 use Rattle.hm_base.specs.Logs.{is_write, writes}
 use Rattle.hm_order.specs.declared.mark.Mark.{Mark}
+use Rattle.hm_order.specs.Marks.{commit_of}
 use Rattle.hm_parts.specs.Seen.{Noted}
-use Rattle.hm_rules.specs.Declared.{declared_after, commits_since, commit_of}
+use Rattle.hm_rules.specs.Declared.{declared_after, commits_since}
 
 -- the marks of more entries
 pub commits_since-append : (before more : List Entry) → commits_since before (before ++ more) ≡ map commit_of (writes more)

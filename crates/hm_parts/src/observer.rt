@@ -1,7 +1,8 @@
 ghost use Rattle.std.specs.Prelude.{◌≡◌, ◌≤◌, ◌<◌, ◌+◌, ◌++◌, ◌∷◌, [], length, take, map, vec_len, vec_capacity, IfOk, OnOk, OnErr};
 ghost use Rattle.hm_base.specs.Logs.{writes};
 ghost use Rattle.hm_store.specs.Log.{max_log_len};
-ghost use Rattle.hm_rules.specs.Declared.{declared_after, commits_since, commit_of};
+ghost use Rattle.hm_order.specs.Marks.{commit_of};
+ghost use Rattle.hm_rules.specs.Declared.{declared_after, commits_since};
 
 use hm_base::entry::Entry;
 use hm_base::memory::NoMemory;

@@ -12,7 +12,7 @@ use Rattle.hm_base.specs.declared.why.Why.{Why}
 use Rattle.hm_base.specs.declared.why.Why.TheVariants as why
 use Rattle.hm_base.specs.Lists.{IsPrefix}
 use Rattle.hm_base.specs.Logs.{is_write, writes, latest, read_ahead}
-use Rattle.hm_base.proofs.ListLaws.{prefix_same, prefix_then, prefix_take, prefix_both, prefix_is_take, prefix-length, prefix_at, prefix_at_back}
+use Rattle.hm_base.proofs.ListLaws.{prefix_same, prefix_then, prefix_take, prefix_both, prefix_is_take, prefix-length, prefix_at, prefix_at_back, set_still}
 use Rattle.hm_packet.specs.declared.acted.Did.TheVariants as did
 use Rattle.hm_packet.specs.declared.body.Body.TheVariants as body
 use Rattle.hm_packet.specs.declared.body.FastRead.{FastRead}
@@ -32,7 +32,7 @@ use Rattle.hm_rules.specs.PrimaryBackup.{is_primary, is_settled, primary_normal_
 use Rattle.hm_rules.specs.World.{World}
 use Rattle.hm_core_laws.specs.Packets.{op, WasAsked, Holds}
 use Rattle.hm_core_laws.specs.Core.{ReplicaHolds}
-use Rattle.hm_core_laws.proofs.ListSteps.{set_still, last_stands}
+use Rattle.hm_core_laws.proofs.ListSteps.{last_stands}
 use Rattle.hm_view_laws.specs.Leads.{Lead}
 use Rattle.hm_primary_laws.specs.Led.{BackupHolds, RoleHolds, MemberHolds, CommitHolds, Fits, GroupHolds, SettledHolds}
 use Rattle.hm_primary_laws.proofs.Grows.{grew_same}

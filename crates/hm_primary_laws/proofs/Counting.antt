@@ -7,13 +7,13 @@ use Rattle.std.proofs.lemmas.List.{length-map}
 use Rattle.std.proofs.lemmas.List.Sums.{sum_by-cons, count_by-le-length}
 use Rattle.std.proofs.lemmas.Option.{none-some, same_Some, slice_get_within}
 use Rattle.hm_base.specs.Taking.{held_by}
+use Rattle.hm_base.proofs.ListLaws.{there_is}
 use Rattle.hm_order.specs.Marks.{At}
 use Rattle.hm_rules.specs.Replica.{Replica, len, others, acked_by}
 use Rattle.hm_rules.specs.ReplicaSteps.{quorum_len}
 use Rattle.hm_rules.specs.PrimaryBackup.{is_settled}
 use Rattle.hm_core_laws.specs.Epochs.{HasMember}
 use Rattle.hm_core_laws.proofs.Members.{member_cases, member_filter}
-use Rattle.hm_core_laws.proofs.ListSteps.{there_is}
 use Rattle.hm_view_laws.proofs.Reached.{held_reached}
 
 -- ---- lists

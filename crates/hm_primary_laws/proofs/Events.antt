@@ -8,7 +8,7 @@ use Rattle.hm_base.specs.declared.node.GroupKind.{GroupKind}
 use Rattle.hm_base.specs.declared.node.GroupKind.TheVariants.{Primary}
 use Rattle.hm_base.specs.declared.node.Node.TheVariants as node
 use Rattle.hm_base.specs.Lists.{IsPrefix, IsIn}
-use Rattle.hm_base.proofs.ListLaws.{prefix_same, prefix_append, prefix_at, prefix-length, each_in}
+use Rattle.hm_base.proofs.ListLaws.{prefix_same, prefix_append, prefix_at, prefix-length, each_in, set_same}
 use Rattle.hm_packet.specs.declared.acted.Did.TheVariants as did
 use Rattle.hm_packet.specs.declared.body.Body.TheVariants as body
 use Rattle.hm_packet.specs.Messages.{Message}
@@ -29,7 +29,6 @@ use Rattle.hm_core_laws.specs.Changes.{is_quiet, Origin, IsStep, IsQuiet, Change
 use Rattle.hm_core_laws.specs.Owed.{declared_by}
 use Rattle.hm_core_laws.proofs.EpochSteps.{fewer_members, epochs_quiet, epochs_stepped, epochs_removed, epoch_now}
 use Rattle.hm_core_laws.proofs.HoldsLater.{list_later}
-use Rattle.hm_core_laws.proofs.ListSteps.{set_same}
 use Rattle.hm_core_laws.proofs.Members.{absent_before}
 use Rattle.hm_view_laws.specs.Leads.{Lead}
 use Rattle.hm_primary_laws.specs.Led.{MemberHolds, Fits, IsLivePrimary, GroupHolds, SettledHolds, PrimaryHolds}

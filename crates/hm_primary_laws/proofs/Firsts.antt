@@ -3,13 +3,13 @@ use Rattle.std.proofs.Common.{◌≡◌, ℕ, ◌<◌, ◌≤◌, true, false, L
 use Rattle.std.specs.Prelude.{nat_eq, slice_index, slice_set, unwrap_or}
 use Rattle.std.proofs.lemmas.Bool.{eqb-true, false≢true, or_left, eq-eqb, cases_lt}
 use Rattle.hm_base.specs.declared.entry.Entry.{Entry}
+use Rattle.hm_base.proofs.ListLaws.{set_at, there_is}
 use Rattle.hm_order.specs.Marks.{At}
 use Rattle.hm_rules.specs.Numbers.{stands_in}
 use Rattle.hm_rules.specs.Replica.{Replica, first_member}
 use Rattle.hm_rules.specs.PrimaryBackup.{is_primary}
 use Rattle.hm_core_laws.specs.Epochs.{HasMember, RiseFrom}
 use Rattle.hm_core_laws.proofs.Members.{first_least}
-use Rattle.hm_core_laws.proofs.ListSteps.{set_at, there_is}
 use Rattle.hm_view_laws.specs.Leads.{Lead}
 use Rattle.hm_primary_laws.specs.Led.{first_in, MemberHolds, EpochHolds, IsLivePrimary, GroupHolds}
 

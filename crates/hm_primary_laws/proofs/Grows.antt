@@ -5,7 +5,7 @@ use Rattle.std.proofs.lemmas.Bool.{cases_Bool, false≢true, eqb-true}
 use Rattle.std.proofs.lemmas.List.Elements.{All-weaker}
 use Rattle.hm_base.specs.declared.entry.Entry.{Entry}
 use Rattle.hm_base.specs.Lists.{IsPrefix}
-use Rattle.hm_base.proofs.ListLaws.{prefix_same, prefix_then, prefix_at, prefix_take, prefix-length, prefix-take, slice_later}
+use Rattle.hm_base.proofs.ListLaws.{prefix_same, prefix_then, prefix_at, prefix_take, prefix-length, prefix-take, slice_later, there_is}
 use Rattle.hm_packet.specs.declared.body.Body.{Body}
 use Rattle.hm_packet.specs.declared.body.Body.TheVariants as body
 use Rattle.hm_packet.specs.Messages.{Message}
@@ -14,7 +14,6 @@ use Rattle.hm_rules.specs.Senders.{number}
 use Rattle.hm_rules.specs.Replica.{Replica, first_member, acked_by}
 use Rattle.hm_rules.specs.PrimaryBackup.{is_primary}
 use Rattle.hm_core_laws.specs.Changes.{is_quiet}
-use Rattle.hm_core_laws.proofs.ListSteps.{there_is}
 use Rattle.hm_view_laws.specs.Leads.{Lead}
 use Rattle.hm_view_laws.specs.Changes.{put}
 use Rattle.hm_view_laws.proofs.Puts.{each_put}

@@ -4,12 +4,11 @@ use Rattle.std.specs.Prelude.{slice_set}
 use Rattle.std.proofs.lemmas.Bool.{cases_Bool}
 use Rattle.hm_base.specs.declared.entry.Entry.{Entry}
 use Rattle.hm_base.specs.Lists.{IsPrefix}
-use Rattle.hm_base.proofs.ListLaws.{prefix_same, prefix_take, prefix-take}
+use Rattle.hm_base.proofs.ListLaws.{prefix_same, prefix_take, prefix-take, set_at}
 use Rattle.hm_order.specs.Marks.{At}
 use Rattle.hm_rules.specs.Numbers.{stands_in}
 use Rattle.hm_rules.specs.Replica.{Replica}
 use Rattle.hm_rules.specs.PrimaryBackup.{is_primary}
-use Rattle.hm_core_laws.proofs.ListSteps.{set_at}
 use Rattle.hm_view_laws.specs.Leads.{Lead}
 use Rattle.hm_view_laws.proofs.Puts.{same_or_not}
 use Rattle.hm_primary_laws.specs.Led.{first_in, IsPast, LeadsHold, RoleHolds, MemberHolds, EpochHolds, IsLivePrimary, KeepsFront, GroupHolds}

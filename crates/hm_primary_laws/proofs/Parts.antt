@@ -10,7 +10,7 @@ use Rattle.hm_base.specs.declared.entry.Act.TheVariants as act
 use Rattle.hm_base.specs.Lists.{IsPrefix, IsSlice}
 use Rattle.hm_base.specs.Logs.{max_page_len, page}
 use Rattle.hm_base.specs.Taking.{held}
-use Rattle.hm_base.proofs.ListLaws.{prefix_same, prefix_then, slice_cut}
+use Rattle.hm_base.proofs.ListLaws.{prefix_same, prefix_then, slice_cut, each_from_at, set_same, set_twice}
 use Rattle.hm_packet.specs.Messages.{Message}
 use Rattle.hm_order.specs.Marks.{At}
 use Rattle.hm_rules.specs.Numbers.{stands_in}
@@ -28,8 +28,7 @@ use Rattle.hm_core_laws.specs.Owed.{declared_by}
 use Rattle.hm_core_laws.specs.Later.{StaysTrue}
 use Rattle.hm_core_laws.proofs.Sources.{all_sourced_later}
 use Rattle.hm_core_laws.proofs.HoldsLater.{all_hold_later}
-use Rattle.hm_core_laws.proofs.StepParts.{nothing_declared, answers_hold, answers_sent, all_from_at}
-use Rattle.hm_core_laws.proofs.ListSteps.{set_same, set_twice}
+use Rattle.hm_core_laws.proofs.StepParts.{nothing_declared, answers_hold, answers_sent}
 use Rattle.hm_view_laws.specs.Leads.{Lead}
 use Rattle.hm_primary_laws.specs.Led.{LeadsHold, MemberHolds, CommitHolds, Fits, IsPast, IsLivePrimary, GroupHolds, SettledHolds, PrimaryHolds}
 use Rattle.hm_primary_laws.proofs.Firsts.{EpochsOf, epochs_set, one_primary}
@@ -215,7 +214,7 @@ module _ (w : World) (n : ℕ) (r : Replica) (a : Acts w n r) where
             senders = answers_sent last new.known m;
             stays = λ i d l h k' net later front. answers_hold h k' net last new.known m later.agree (prefix_then p front) i d l;
             fits = All-map (Fits a.primary.epochs leads k) (answer_entry (record last { known = m })) (drop (max new.known (m - max_answered)) (take m last.log))
-                (all_from_at (λ (e : Entry). Fits a.primary.epochs leads k (answer_entry (record last { known = m }) e)) (drop (max new.known (m - max_answered)) (take m last.log)) (λ i e at. entry_fits e e.act));
+                (each_from_at (λ (e : Entry). Fits a.primary.epochs leads k (answer_entry (record last { known = m }) e)) (drop (max new.known (m - max_answered)) (take m last.log)) (λ i e at. entry_fits e e.act));
           }
             where
               entry_fits : (e : Entry) (x : Act) → Fits a.primary.epochs leads k (answer_act (record last { known = m }) e x)

@@ -14,7 +14,7 @@ use Rattle.hm_rules.specs.Senders.{number}
 use Rattle.hm_rules.specs.Replica.{Replica, applied, acked_by}
 use Rattle.hm_rules.specs.PrimaryBackup.{is_primary, is_settled}
 use Rattle.hm_rules.specs.World.{World}
-use Rattle.hm_core_laws.specs.Core.{ListHolds, Core}
+use Rattle.hm_core_laws.specs.Core.{ListHolds}
 use Rattle.hm_core_laws.specs.Epochs.{EpochsHold}
 use Rattle.hm_view_laws.specs.Leads.{Lead}
 
@@ -136,8 +136,3 @@ pub record PrimaryHolds (w : World) : Type 0 where
   pub packets : All (Fits epochs leads w.declared) w.net
   pub group : GroupHolds epochs w.stopped w.replicas leads w.declared
   pub settled : (n : ℕ) (r : Replica) → IsLivePrimary w.stopped w.replicas n r → SettledHolds w.declared r
-
--- what every event keeps
-pub record IsSound (w : World) : Type 0 where
-  pub core : Core w
-  pub primary : PrimaryHolds w

@@ -4,5 +4,3 @@
 pub mod fault;
 mod groups;
 pub mod service;
-#[cfg(test)]
-mod tests;

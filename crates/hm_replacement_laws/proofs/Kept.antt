@@ -6,7 +6,7 @@ use Rattle.std.proofs.lemmas.Option.{slice_get_within}
 use Rattle.std.proofs.lemmas.List.Elements.{All-nil, All-cons, All-append, All-weaker, All-map}
 use Rattle.hm_base.specs.declared.node.Node.TheVariants as node
 use Rattle.hm_base.specs.declared.node.GroupKind.{GroupKind}
-use Rattle.hm_base.proofs.ListLaws.{each_in}
+use Rattle.hm_base.proofs.ListLaws.{each_in, set_at}
 use Rattle.hm_packet.specs.declared.body.Body.{Body}
 use Rattle.hm_packet.specs.declared.body.Body.TheVariants as body
 use Rattle.hm_packet.specs.Messages.{Message}
@@ -20,7 +20,6 @@ use Rattle.hm_rules.specs.World.{World, is_stopped, live}
 use Rattle.hm_rules.specs.Deliveries.{replica_step, replica_tick, stepped}
 use Rattle.hm_rules.specs.Happens.{serviced}
 use Rattle.hm_core_laws.specs.Changes.{Origin, IsStep, is_quiet, Served, IsQuiet, Change}
-use Rattle.hm_core_laws.proofs.ListSteps.{set_at}
 use Rattle.hm_core_laws.proofs.Members.{member_filter, absent_before}
 use Rattle.hm_step_laws.specs.Keeps.{TellsOf, IsSentBy, Keeps}
 use Rattle.hm_replacement_laws.specs.Replacement.{ToldIn, IsTold, ReplacementHolds}

@@ -11,7 +11,8 @@ use Rattle.hm_rules.specs.World.{World, switch_at}
 use Rattle.hm_core_laws.specs.Sourced.{IsNumbered, IsSourced}
 use Rattle.hm_core_laws.specs.Core.{Core}
 use Rattle.hm_core_laws.proofs.ListSteps.{switch_there}
-use Rattle.hm_replacement_laws.specs.Replacement.{ReplacementHolds, NoneStartedAbove, OneAccepted}
+use Rattle.hm_core_laws.specs.Accepted.{OneAccepted}
+use Rattle.hm_replacement_laws.specs.Replacement.{ReplacementHolds, NoneStartedAbove}
 
 pub none_started_above : (w : World) → Core w → ReplacementHolds w → NoneStartedAbove w
 none_started_above w core holds n r at live number s h =

@@ -3,8 +3,8 @@ use Rattle.std.proofs.Common.{◌≡◌, ℕ, ◌+◌, Some, sym, ap, subst, ◌
 use Rattle.std.specs.Prelude.{slice_get}
 use Rattle.std.proofs.lemmas.List.Elements.{All-nil}
 use Rattle.std.proofs.lemmas.Bool.{false≢true}
+use Rattle.hm_base.proofs.ListLaws.{map_at}
 use Rattle.hm_order.specs.Marks.{At}
-use Rattle.hm_due_law.proofs.Commits.{map_at}
 use Rattle.hm_rules.specs.Replica.{Replica, opened}
 use Rattle.hm_rules.specs.Service.{replicas_below}
 use Rattle.hm_rules.specs.Events.{Setup}

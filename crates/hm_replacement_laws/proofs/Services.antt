@@ -12,26 +12,29 @@ use Rattle.hm_packet.specs.declared.body.Body.TheVariants as body
 use Rattle.hm_packet.specs.declared.body.Refused.{Refused}
 use Rattle.hm_packet.specs.Messages.{Message}
 use Rattle.hm_rules.specs.Senders.{same_node, number}
-use Rattle.hm_rules.specs.Numbers.{stands_in, numbers_from}
+use Rattle.hm_rules.specs.Numbers.{stands_in, numbers_from, with_number}
 use Rattle.hm_rules.specs.Replica.{Replica}
-use Rattle.hm_rules.specs.Service.{Service, Noted, notes_refused, is_member_node, on_refused, service_step, awaited}
+use Rattle.hm_rules.specs.Service.{Service, Noted, notes_refused, is_member_node, on_refused, service_step, awaited, StartFault, fault_of, start_fault}
 use Rattle.hm_replacement_laws.specs.Replacement.{ToldIn, IsTold}
 
 -- ---- lists of numbers
 
--- it is the last, or stood there before
-pub push_cases : (ms : List ℕ) (k n : ℕ) → IsTrue (stands_in n (ms ++ k ∷ [])) → IsTrue (stands_in n ms) ⊎ (k ≡ n)
-push_cases [] k n t = elim (or_cases (nat_eq k n) false t) [
+-- it is the new one, or stood there before
+pub with_cases : (ms : List ℕ) (k n : ℕ) → IsTrue (stands_in n (with_number k ms)) → IsTrue (stands_in n ms) ⊎ (k ≡ n)
+with_cases [] k n t = elim (or_cases (nat_eq k n) false t) [
   | inl here ↦ inr (eqb-true k n here)
   | inr none ↦ absurd (false≢true none)
 ]
-push_cases (m ∷ ms) k n t = elim (or_cases (nat_eq m n) (stands_in n (ms ++ k ∷ [])) t) [
-  | inl here ↦ inl (or_left (nat_eq m n) (stands_in n ms) here)
-  | inr behind ↦ elim (push_cases ms k n behind) [
-    | inl before ↦ inl (or_right (nat_eq m n) (stands_in n ms) before)
-    | inr last ↦ inr last
-  ]
-]
+with_cases (m ∷ ms) k n t =
+    cond_both (nat_lt k m) (k ∷ m ∷ ms) (m ∷ with_number k ms) (λ (l : List ℕ). IsTrue (stands_in n l) → IsTrue (stands_in n (m ∷ ms)) ⊎ (k ≡ n))
+    (λ lt u. elim (or_cases (nat_eq k n) (stands_in n (m ∷ ms)) u) [ inl here ↦ inr (eqb-true k n here) | inr before ↦ inl before ])
+    (λ ge u. elim (or_cases (nat_eq m n) (stands_in n (with_number k ms)) u) [
+      | inl here ↦ inl (or_left (nat_eq m n) (stands_in n ms) here)
+      | inr behind ↦ elim (with_cases ms k n behind) [
+        | inl before ↦ inl (or_right (nat_eq m n) (stands_in n ms) before)
+        | inr new ↦ inr new
+      ]
+    ]) t
 
 -- where none is found, the test fails at each that stands there
 pub none_found : (p : ℕ → Bool) (ms : List ℕ) (n : ℕ) → find p ms ≡ None → IsTrue (stands_in n ms) → p n ≡ false
@@ -62,12 +65,12 @@ module _ (replicas : List Replica) (s : Service) (noted : (n : ℕ) (r : Replica
 
   notes_one : (k : ℕ) (answer : Refused) → ((r : Replica) → slice_get replicas k ≡ Some r → answer.switch < r.accepted) → NotesWell replicas s (notes_refused s k answer).service
   notes_one k answer told =
-      let more : Noted = record { service = record s { refused = s.refused ++ k ∷ [] }; did = did.Done } in
+      let more : Noted = record { service = record s { refused = with_number k s.refused }; did = did.Done } in
       cond_both (not (s.retiring && (answer.switch == s.newest))) (record { service = s; did = did.Ignored why.Status }) (if stands_in k s.refused then record { service = s; did = did.Ignored why.Repeat } else more) (λ (x : Noted). NotesWell replicas s x.service) (λ t. same_notes)
       (λ t. cond_both (stands_in k s.refused) (record { service = s; did = did.Ignored why.Repeat }) more (λ (x : Noted). NotesWell replicas s x.service) (λ u. same_notes)
       (λ u. (
         refl,
-        λ n r at there. elim (push_cases s.refused k n there) [
+        λ n r at there. elim (with_cases s.refused k n there) [
           | inl before ↦ noted n r at before
           | inr last ↦ (
               let same : answer.switch ≡ s.newest = eqb-true answer.switch s.newest (and_parts s.retiring (answer.switch == s.newest) (not-false _ t)).1 in
@@ -91,10 +94,17 @@ module _ (replicas : List Replica) (s : Service) (noted : (n : ℕ) (r : Replica
 
 -- ---- whom it awaits
 
--- where none is awaited, each live member is noted
-pub all_noted : (s : Service) (live : List ℕ) (n : ℕ) → awaited s live ≡ None → IsTrue (stands_in n s.members) → IsTrue (stands_in n live) → IsTrue (stands_in n s.refused)
+none_awaited : (s : Service) (live : List ℕ) → start_fault s live ≡ None → awaited s live ≡ None
+none_awaited s live e = cond_both s.retiring (fault_of s (awaited s live)) (Some StartFault.NotRetired) (λ (o : Option StartFault). o ≡ None → awaited s live ≡ None) (λ t. by_awaited (awaited s live)) (λ f x. absurd (none-some _ (sym x))) e
+  where
+    by_awaited : (o : Option ℕ) → fault_of s o ≡ None → o ≡ None
+    by_awaited None x = refl
+    by_awaited (Some replica) x = absurd (none-some _ (sym x))
+
+-- where nothing bars the start, each live member is noted
+pub all_noted : (s : Service) (live : List ℕ) (n : ℕ) → start_fault s live ≡ None → IsTrue (stands_in n s.members) → IsTrue (stands_in n live) → IsTrue (stands_in n s.refused)
 all_noted s live n e member there =
-    elim (and_cases (stands_in n live) (not (stands_in n s.refused)) (none_found (λ m. stands_in m live && not (stands_in m s.refused)) s.members n e member)) [
+    elim (and_cases (stands_in n live) (not (stands_in n s.refused)) (none_found (λ m. stands_in m live && not (stands_in m s.refused)) s.members n (none_awaited s live e) member)) [
       | inl gone ↦ absurd (both_ways (stands_in n live) gone there)
       | inr noted ↦ not-false (stands_in n s.refused) noted
     ]

@@ -4,7 +4,6 @@ use Rattle.hm_base.specs.declared.node.Node.TheVariants as node
 use Rattle.hm_packet.specs.declared.body.Body.{Body}
 use Rattle.hm_packet.specs.declared.body.Body.TheVariants as body
 use Rattle.hm_packet.specs.Messages.{Message}
-use Rattle.hm_due_law.specs.Declared.{NoneAbove}
 use Rattle.hm_rules.specs.Numbers.{stands_in}
 use Rattle.hm_rules.specs.Switch.{AbstractSwitch}
 use Rattle.hm_rules.specs.Replica.{Replica}
@@ -29,7 +28,3 @@ pub record ReplacementHolds (w : World) : Type 0 where
 -- no switch was started that is above the one that a live replica takes
 abbrev pub NoneStartedAbove : World → Type 0
 NoneStartedAbove w = (n : ℕ) (r : Replica) → slice_get w.replicas n ≡ Some r → is_stopped w n ≡ false → (number : ℕ) (s : AbstractSwitch) → switch_at w number ≡ Some s → number ≤ r.accepted
-
--- no live replica takes a switch that is below one of which a write was committed
-abbrev pub OneAccepted : World → Type 0
-OneAccepted w = (n : ℕ) (r : Replica) → slice_get w.replicas n ≡ Some r → is_stopped w n ≡ false → NoneAbove w.history r.accepted

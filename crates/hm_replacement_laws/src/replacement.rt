@@ -3,7 +3,8 @@ ghost use Rattle.hm_rules.specs.Events.{Setup, Event};
 ghost use Rattle.hm_rules.specs.World.{World, opens};
 ghost use Rattle.hm_rules.specs.Happens.{happens};
 ghost use Rattle.hm_core_laws.specs.Core.{Core};
-ghost use Rattle.hm_replacement_laws.specs.Replacement.{ReplacementHolds, NoneStartedAbove, OneAccepted};
+ghost use Rattle.hm_core_laws.specs.Accepted.{OneAccepted};
+ghost use Rattle.hm_replacement_laws.specs.Replacement.{ReplacementHolds, NoneStartedAbove};
 
 use hm_core_laws::events::events_are_changes;
 use hm_step_laws::steps::every_step_keeps;

@@ -6,9 +6,9 @@ use Rattle.std.proofs.lemmas.List.Elements.{filter_map-append}
 use Rattle.std.proofs.lemmas.Grind.{flat_map-append, fold-append}
 use Rattle.hm_base.specs.declared.node.GroupKind.TheVariants as kind
 use Rattle.hm_rules.specs.Events as rule
-use Rattle.hm_world.specs.Declares.{max_events}
-use Rattle.hm_world.specs.Setups.{setup_of, event_of}
-use Rattle.hm_world.specs.declared.event.Event.{Event}
+use Rattle.hm_schedule.specs.Limits.{max_events}
+use Rattle.hm_schedule.specs.Setups.{setup_of, event_of}
+use Rattle.hm_schedule.specs.declared.event.Event.{Event}
 use Rattle.hm_schedule.specs.Orders.{Stage, MayCome, IsNext, ComeFrom, IsBegun, after, place_of, stage_of, events_at, line_bytes, lines_text, default_setup, set_by, setup_in, event_in, events_in}
 use Rattle.hm_schedule.specs.Schedules.{IsLawful}
 use Rattle.hm_schedule.specs.declared.line.Line.{Line}

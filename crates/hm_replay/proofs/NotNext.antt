@@ -2,7 +2,7 @@
 use Rattle.std.proofs.Common.{◌≡◌, ◌≢◌, ℕ, ◌+◌, List, [], ◌∷◌, ◌++◌, length, Option, Some, None, refl, sym, ap, subst, ◌∙◌, append_assoc, arith}
 use Rattle.std.specs.Prelude.{fold, IfSome}
 use Rattle.hm_base.specs.Spellings.{spaced}
-use Rattle.hm_world.specs.declared.event.Event.TheVariants as event
+use Rattle.hm_schedule.specs.declared.event.Event.TheVariants as event
 use Rattle.hm_schedule.specs.LineWords.{IsWordEnd, SplitsWord}
 use Rattle.hm_schedule.specs.Names.{keyword_text}
 use Rattle.hm_schedule.specs.Orders.{Stage, IsNext, ComeFrom, IsBegun, IsSchedule, IsOutside, after, events_at, line_bytes, lines_text}
@@ -70,6 +70,7 @@ after_is_behind stage (line.Event event.Drop) = refl
 after_is_behind stage (line.Event (event.Tick replica)) = refl
 after_is_behind stage (line.Event (event.Stop replica)) = refl
 after_is_behind stage (line.Event (event.Remove replica)) = refl
+after_is_behind stage (line.Event (event.Timeout replica)) = refl
 
 behind_is_fresh : (stage : Stage) (k : Keyword) → behind stage k ≢ Stage.Fresh
 behind_is_fresh stage keyword.Group same = cc
@@ -85,6 +86,7 @@ behind_is_fresh stage keyword.Drop same = cc
 behind_is_fresh stage keyword.Tick same = cc
 behind_is_fresh stage keyword.Stop same = cc
 behind_is_fresh stage keyword.Remove same = cc
+behind_is_fresh stage keyword.Timeout same = cc
 
 spaced_ends : (ws : List (List ℕ)) → IsWordEnd (spaced ws)
 spaced_ends [] = tt

@@ -10,10 +10,10 @@ use Rattle.hm_rules.specs.World.{World, opens}
 use Rattle.hm_rules.specs.Runs.{Slotted, slotted}
 use Rattle.hm_rules.specs.RunText as run_texts
 use Rattle.hm_refusal_laws.specs.Slotting.{slot_happens, slot_step, slot_run, slot_text}
-use Rattle.hm_world.specs.Declares.{max_events}
-use Rattle.hm_world.specs.Setups.{setup_of, event_of}
+use Rattle.hm_schedule.specs.Limits.{max_events}
+use Rattle.hm_schedule.specs.Setups.{setup_of, event_of}
 use Rattle.hm_world.specs.WorldFields.{Held, with_slots}
-use Rattle.hm_world.specs.declared.event.Event.{Event}
+use Rattle.hm_schedule.specs.declared.event.Event.{Event}
 use Rattle.hm_schedule.specs.LineTexts.{IsLine}
 use Rattle.hm_schedule.specs.Orders.{Stage, IsBegun, IsSchedule, IsOutside, after, stage_of, events_at, line_bytes, lines_text, setup_in, events_in}
 use Rattle.hm_schedule.specs.Reasons.{reason_text}

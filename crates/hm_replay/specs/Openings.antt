@@ -1,6 +1,6 @@
 -- What the opening lines of a schedule say.
 use Rattle.std.specs.Prelude.{◌≡◌, ℕ, ◌+◌, ◌≤◌, List, [], length}
-use Rattle.hm_world.specs.Setups.{setup_of}
+use Rattle.hm_schedule.specs.Setups.{setup_of}
 use Rattle.hm_schedule.specs.Orders.{Stage, IsBegun, stage_of, setup_in, events_in}
 use Rattle.hm_schedule.specs.declared.line.Line.{Line}
 use Rattle.hm_replay.specs.Stages.{stage_at}

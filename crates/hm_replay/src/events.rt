@@ -1,14 +1,14 @@
 ghost use Rattle.std.specs.Prelude.{◌≡◌, ◌<◌, ◌+◌, ◌++◌, drop, flat_map, OnOk};
 ghost use Rattle.hm_rules.specs.RunText.{event_text, mark_line, packet_lines};
 ghost use Rattle.hm_refusal_laws.specs.Slotting.{slot_happens, slot_step};
-ghost use Rattle.hm_world.specs.Declares.{max_events};
-ghost use Rattle.hm_world.specs.Setups.{event_of};
+ghost use Rattle.hm_schedule.specs.Limits.{max_events};
+ghost use Rattle.hm_schedule.specs.Setups.{event_of};
 ghost use Rattle.hm_world.specs.WorldFields.{with_slots};
 
 use crate::run_text::{write_marks, write_outcome, write_sent};
 use hm_base::memory::NoMemory;
 use hm_order::mark::Mark;
-use hm_world::event::Event;
+use hm_schedule::event::Event;
 use hm_world::world::World;
 
 /// Lets an event happen, and makes its text in place of what the buffer held.

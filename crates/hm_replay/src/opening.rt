@@ -5,8 +5,8 @@ ghost use Rattle.hm_replay.specs.Openings.{Says, max_opening};
 
 use crate::stage::{Stage, default_setup, place_of, set_by};
 use hm_base::node::GroupKind;
+use hm_schedule::event::Setup;
 use hm_schedule::line::Line;
-use hm_world::event::Setup;
 
 /// What the opening lines of a schedule say: its setup, how far it has come, and how many lines they are.
 #[derive(Clone, Copy, Debug, PartialEq, Eq)]

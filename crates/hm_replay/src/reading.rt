@@ -13,7 +13,7 @@ use crate::opening::Opening;
 use crate::stage::Stage;
 use hm_outside::device::{Failed, Source};
 use hm_schedule::line::{Line, LineReason, read_line};
-use hm_world::event::Event;
+use hm_schedule::event::Event;
 
 /// What comes next of a schedule: a line that may come there, the end of the schedule, or bytes that are outside the grammar.
 #[derive(Clone, Copy, Debug, PartialEq, Eq)]

@@ -1,7 +1,7 @@
 ghost use Rattle.std.specs.Prelude.{◌≡◌, ◌≢◌, ◌+◌, ◌≤◌, ◌⊎◌, ℕ, List, [], ◌∷◌, length, Some, codes, flat_map, map, string_bytes};
 ghost use Rattle.std.specs.List.{AllByRecursion};
 ghost use Rattle.hm_packet.specs.Messages.{Message};
-ghost use Rattle.hm_codec.specs.Packets.{HasSpelling};
+ghost use Rattle.hm_wire.specs.Packets.{HasSpelling};
 ghost use Rattle.hm_frame.specs.Frames.{frame};
 ghost use Rattle.hm_show.specs.Shows.{max_frames};
 ghost use Rattle.hm_order.specs.Order.{order};

@@ -1,11 +1,12 @@
 ghost use Rattle.std.specs.Prelude.{◌≡◌, ◌↔◌, IsTrue};
 ghost use Rattle.hm_schedule.specs.Orders as orders;
-ghost use Rattle.hm_world.specs.Setups.{setup_of};
+ghost use Rattle.hm_schedule.specs.Setups.{setup_of};
 ghost use Rattle.hm_replay.specs.Stages.{stage_at};
 
 use hm_base::node::GroupKind;
+use hm_schedule::event::Setup;
+use hm_schedule::limits::MAX_EVENTS;
 use hm_schedule::line::Line;
-use hm_world::event::{MAX_EVENTS, Setup};
 
 /// How far a schedule has come.
 #[derive(Clone, Copy, Debug, PartialEq, Eq)]

@@ -1,7 +1,7 @@
 ghost use Rattle.std.specs.Prelude.{◌≡◌};
 ghost use Rattle.hm_replay.specs.Statuses.{ended, status_of};
 
-use hm_codec::malformed::Reason;
+use hm_wire::malformed::Reason;
 use hm_outside::device::NotPut;
 use hm_schedule::line::LineReason;
 use hm_show::show::Shown;

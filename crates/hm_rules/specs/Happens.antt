@@ -5,6 +5,7 @@ use Rattle.std.specs.List.{list_any}
 use Rattle.hm_base.specs.declared.node.Node.TheVariants as node
 use Rattle.hm_packet.specs.declared.body.Body.{Body}
 use Rattle.hm_packet.specs.declared.body.Body.TheVariants as body
+use Rattle.hm_packet.specs.declared.outcome.Bar.{Bar}
 use Rattle.hm_packet.specs.declared.outcome.Bar.TheVariants as bar
 use Rattle.hm_packet.specs.Messages.{Message}
 use Rattle.hm_order.specs.declared.mark.Mark.TheVariants as mark
@@ -12,9 +13,8 @@ use Rattle.hm_order.specs.declared.mark.Want.{Want}
 use Rattle.hm_order.specs.declared.mark.Want.TheVariants as want
 use Rattle.hm_rules.specs.Same.{same_message}
 use Rattle.hm_rules.specs.Replica.{Replica}
-use Rattle.hm_rules.specs.ReplicaSteps.{last_number}
 use Rattle.hm_rules.specs.Viewstamped.{vr_timeout}
-use Rattle.hm_rules.specs.Service.{Service, Serviced, is_fixed, is_member, is_last, removes, retires, awaited, starts}
+use Rattle.hm_rules.specs.Service.{Service, Serviced, is_fixed, is_member, is_last, removes, retires, StartFault, start_fault, starts}
 use Rattle.hm_rules.specs.Events.{Event}
 use Rattle.hm_rules.specs.World.{Client, World, Happened, starts_switch, barred, taken, posts, switch_at, sent_at, is_stopped, live, client_of, with_client}
 use Rattle.hm_rules.specs.Deliveries.{at_replica, replica_tick, deliver}
@@ -70,13 +70,19 @@ removal w number =
 abbrev pub started : World → Service → Happened
 started w s = taken w (record w { service = s; switches = w.switches ++ starts_switch w.setup s ∷ [] })
 
--- a new switch is started once every live replica has refused the one before it; the numbers of 32 bits don't end in a run
+-- the numbers of 32 bits don't end in a run
+abbrev pub start_bar : StartFault → Bar
+start_bar StartFault.NotRetired = bar.NotRetired
+start_bar (StartFault.NotRefused replica) = bar.NotRefused
+start_bar StartFault.NoNumber = bar.NoSwitch
+
+abbrev pub starts_or : World → Option StartFault → Happened
+starts_or w (Some fault) = barred w (start_bar fault)
+starts_or w None = started w (starts w.service)
+
+-- a new switch is started once every live replica has refused the one before it
 abbrev pub start : World → Happened
-start w =
-    if not w.service.retiring then barred w bar.NotRetired
-    else if is_some (awaited w.service (live w)) then barred w bar.NotRefused
-    else if w.service.newest == last_number then barred w bar.NoSwitch
-    else started w (starts w.service)
+start w = starts_or w (start_fault w.service (live w))
 
 -- ---- arrivals
 

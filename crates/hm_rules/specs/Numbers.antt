@@ -1,9 +1,14 @@
 -- Words on lists of numbers.
-use Rattle.std.specs.Prelude.{ℕ, zero, suc, ◌+◌, Bool, ◌==◌, if◌then◌else◌, List, [], ◌∷◌}
+use Rattle.std.specs.Prelude.{ℕ, zero, suc, ◌+◌, Bool, ◌==◌, nat_lt, if◌then◌else◌, List, [], ◌∷◌}
 use Rattle.std.specs.List.{list_any}
 
 abbrev pub stands_in : ℕ → List ℕ → Bool
 stands_in x xs = list_any (λ y. y == x) xs
+
+-- a rising list with one more number, where it belongs
+abbrev pub with_number : ℕ → List ℕ → List ℕ
+with_number x [] = x ∷ []
+with_number x (y ∷ ys) = if nat_lt x y then x ∷ y ∷ ys else y ∷ with_number x ys
 
 -- how many different numbers there are in the list
 abbrev pub count_distinct : List ℕ → ℕ

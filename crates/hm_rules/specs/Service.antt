@@ -1,7 +1,7 @@
 -- The configuration service: the master that removes stopped servers from a chain or from a primary-backup group (van Renesse and
 -- Schneider, "Chain Replication"), and the replacement of a switch, whose successor starts only once all replicas that could
 -- answer a read of it take nothing more of it (after Harmonia: Zhu and others, PVLDB 13, 2019).
-use Rattle.std.specs.Prelude.{ℕ, ◌+◌, ◌-◌, Bool, true, false, not, ◌&&◌, ◌==◌, if◌then◌else◌, List, [], ◌∷◌, ◌++◌, length, map, filter, find, slice_index, Option}
+use Rattle.std.specs.Prelude.{ℕ, ◌+◌, ◌-◌, Bool, true, false, not, ◌&&◌, ◌==◌, if◌then◌else◌, List, [], ◌∷◌, ◌++◌, length, map, filter, find, slice_index, Option, Some, None}
 use Rattle.hm_base.specs.declared.node.Node.{Node}
 use Rattle.hm_base.specs.declared.node.Node.TheVariants as node
 use Rattle.hm_base.specs.declared.node.GroupKind.{GroupKind}
@@ -15,7 +15,8 @@ use Rattle.hm_packet.specs.declared.body.Refused.{Refused}
 use Rattle.hm_packet.specs.Messages.{Message}
 use Rattle.hm_packet.specs.Routing.{Routing}
 use Rattle.hm_rules.specs.Senders.{same_node, number}
-use Rattle.hm_rules.specs.Numbers.{stands_in, numbers_from}
+use Rattle.hm_rules.specs.Numbers.{stands_in, numbers_from, with_number}
+use Rattle.hm_rules.specs.ReplicaSteps.{last_number}
 
 pub record Service : Type 0 where
   pub kind : GroupKind
@@ -25,7 +26,7 @@ pub record Service : Type 0 where
   pub newest : ℕ
   -- whether the newest switch is being replaced
   pub retiring : Bool
-  -- who takes nothing more of the newest switch
+  -- who takes nothing more of the newest switch, in the order of their numbers
   pub refused : List ℕ
 
 -- the numbers of a group of this size
@@ -95,7 +96,7 @@ abbrev pub notes_refused : Service → ℕ → Refused → Noted
 notes_refused s from answer =
     if not (s.retiring && (answer.switch == s.newest)) then record { service = s; did = did.Ignored why.Status }
     else if stands_in from s.refused then record { service = s; did = did.Ignored why.Repeat }
-    else record { service = record s { refused = s.refused ++ from ∷ [] }; did = did.Done }
+    else record { service = record s { refused = with_number from s.refused }; did = did.Done }
 
 abbrev pub is_member_node : Service → Node → Bool
 is_member_node s (node.Replica r) = is_member s r
@@ -117,6 +118,22 @@ service_step s m =
 abbrev pub awaited : Service → List ℕ → Option ℕ
 awaited s live = find (λ m. stands_in m live && not (stands_in m s.refused)) s.members
 
--- the next switch, where one is being replaced and no listed member is awaited
+-- why the next switch isn't started
+pub data StartFault : Type 0 where
+  NotRetired : StartFault
+  -- the lowest listed member that hasn't refused the newest switch
+  NotRefused : (replica : ℕ) → StartFault
+  -- the newest switch has the last number
+  NoNumber : StartFault
+
+abbrev pub fault_of : Service → Option ℕ → Option StartFault
+fault_of s (Some replica) = Some (StartFault.NotRefused replica)
+fault_of s None = if s.newest == last_number then Some StartFault.NoNumber else None
+
+-- the first of these that holds, where `live` lists the replicas that may still answer
+abbrev pub start_fault : Service → List ℕ → Option StartFault
+start_fault s live = if s.retiring then fault_of s (awaited s live) else Some StartFault.NotRetired
+
+-- the service once the next switch is started, which nobody has refused yet
 abbrev pub starts : Service → Service
 starts s = record s { newest = s.newest + 1; retiring = false; refused = [] }

@@ -10,8 +10,8 @@ use Rattle.hex.proofs.HexLemmas.{length-encode_with}
 use Rattle.hm_base.specs.Padded.{max_value_len}
 use Rattle.hm_base.specs.Spellings.{spaced, joined, value_text}
 use Rattle.hm_base.specs.declared.node.GroupKind.TheVariants as kind
-use Rattle.hm_world.specs.declared.event.Event.{Event}
-use Rattle.hm_world.specs.declared.event.Event.TheVariants as event
+use Rattle.hm_schedule.specs.declared.event.Event.{Event}
+use Rattle.hm_schedule.specs.declared.event.Event.TheVariants as event
 use Rattle.hm_schedule.specs.LineTexts.{IsLine}
 use Rattle.hm_schedule.specs.Names.{keyword_text}
 use Rattle.hm_schedule.specs.Schedules.{IsLawful, IsLawfulEvent, keyword_in, event_fields, field_words, line_words, line_text}
@@ -80,6 +80,7 @@ keyword_len keyword.Drop = lit≤ tt
 keyword_len keyword.Tick = lit≤ tt
 keyword_len keyword.Stop = lit≤ tt
 keyword_len keyword.Remove = lit≤ tt
+keyword_len keyword.Timeout = lit≤ tt
 
 short_keyword : (k : Keyword) → IsShortWord (keyword_text k)
 short_keyword k = record { seen = visible_keyword k; short = keyword_len k }
@@ -97,6 +98,7 @@ short_event event.Drop lawful = tt
 short_event (event.Tick replica) lawful = (short_number replica (omega (arith, lawful)), tt)
 short_event (event.Stop replica) lawful = (short_number replica (omega (arith, lawful)), tt)
 short_event (event.Remove replica) lawful = (short_number replica (omega (arith, lawful)), tt)
+short_event (event.Timeout replica) lawful = absurd lawful
 
 short_chain : IsShortWord (codes "chain")
 short_chain = record { seen = All-from_recursion IsVisible (codes "chain") (lit< tt, (lit< tt, (lit< tt, (lit< tt, (lit< tt, tt))))); short = lit≤ tt }
@@ -127,6 +129,7 @@ few_fields (line.Event event.Drop) = lit≤ tt
 few_fields (line.Event (event.Tick replica)) = lit≤ tt
 few_fields (line.Event (event.Stop replica)) = lit≤ tt
 few_fields (line.Event (event.Remove replica)) = lit≤ tt
+few_fields (line.Event (event.Timeout replica)) = lit≤ tt
 
 short_words : (l : Line) → IsLawful l → AreShort (line_words l)
 short_words l lawful = (short_keyword (keyword_in l), short_fields l lawful)

@@ -43,6 +43,7 @@ named_keyword keyword.Drop = refl
 named_keyword keyword.Tick = refl
 named_keyword keyword.Stop = refl
 named_keyword keyword.Remove = refl
+named_keyword keyword.Timeout = refl
 
 -- a word that is named by a keyword is its text
 module _ (word : List ℕ) (k : Keyword) where
@@ -61,10 +62,11 @@ module _ (word : List ℕ) (k : Keyword) where
       one_of (codes "tick") keyword.Tick (bytes_eq word (codes "tick")) _ refl refl
       (one_of (codes "stop") keyword.Stop (bytes_eq word (codes "stop")) _ refl refl
       (one_of (codes "remove") keyword.Remove (bytes_eq word (codes "remove")) _ refl refl
+      (one_of (codes "timeout") keyword.Timeout (bytes_eq word (codes "timeout")) _ refl refl
       (one_of (codes "group") keyword.Group (bytes_eq word (codes "group")) _ refl refl
       (one_of (codes "table") keyword.Table (bytes_eq word (codes "table")) _ refl refl
       (one_of (codes "life") keyword.Life (bytes_eq word (codes "life")) _ refl refl
-      (one_of (codes "log") keyword.Log (bytes_eq word (codes "log")) _ refl refl none_of))))))
+      (one_of (codes "log") keyword.Log (bytes_eq word (codes "log")) _ refl refl none_of)))))))
 
   pub spells : Spells (named word)
   spells =
@@ -94,6 +96,7 @@ visible_keyword keyword.Drop = letters (codes "drop") (lit< tt, (lit< tt, (lit< 
 visible_keyword keyword.Tick = letters (codes "tick") (lit< tt, (lit< tt, (lit< tt, (lit< tt, tt))))
 visible_keyword keyword.Stop = letters (codes "stop") (lit< tt, (lit< tt, (lit< tt, (lit< tt, tt))))
 visible_keyword keyword.Remove = letters (codes "remove") (lit< tt, (lit< tt, (lit< tt, (lit< tt, (lit< tt, (lit< tt, tt))))))
+visible_keyword keyword.Timeout = letters (codes "timeout") (lit< tt, (lit< tt, (lit< tt, (lit< tt, (lit< tt, (lit< tt, (lit< tt, tt)))))))
 
 pub word_of_chain : IsWord (codes "chain")
 word_of_chain = word_from_visible (codes "chain") (letters (codes "chain") (lit< tt, (lit< tt, (lit< tt, (lit< tt, (lit< tt, tt))))))

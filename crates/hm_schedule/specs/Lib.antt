@@ -1,3 +1,5 @@
+pub mod Limits
+pub mod Setups
 pub mod LineTexts
 pub mod LineWords
 pub mod Ranges

@@ -17,12 +17,14 @@ keyword_text keyword.Drop = codes "drop"
 keyword_text keyword.Tick = codes "tick"
 keyword_text keyword.Stop = codes "stop"
 keyword_text keyword.Remove = codes "remove"
+keyword_text keyword.Timeout = codes "timeout"
 
 abbrev pub rarely_named : List ℕ → Option Keyword
 rarely_named word =
     if bytes_eq word (codes "tick") then Some keyword.Tick
     else if bytes_eq word (codes "stop") then Some keyword.Stop
     else if bytes_eq word (codes "remove") then Some keyword.Remove
+    else if bytes_eq word (codes "timeout") then Some keyword.Timeout
     else if bytes_eq word (codes "group") then Some keyword.Group
     else if bytes_eq word (codes "table") then Some keyword.Table
     else if bytes_eq word (codes "life") then Some keyword.Life

@@ -4,8 +4,8 @@ use Rattle.std.specs.Prelude.{◌≢◌, ℕ, ◌+◌, ◌<◌, List, [], ◌∷
 use Rattle.hm_base.specs.declared.node.GroupKind.{GroupKind}
 use Rattle.hm_base.specs.declared.node.GroupKind.TheVariants.{Chain}
 use Rattle.hm_rules.specs.Events as rule
-use Rattle.hm_world.specs.Declares.{max_events}
-use Rattle.hm_world.specs.Setups.{event_of}
+use Rattle.hm_schedule.specs.Limits.{max_events}
+use Rattle.hm_schedule.specs.Setups.{event_of}
 use Rattle.hm_schedule.specs.LineTexts.{ended}
 use Rattle.hm_schedule.specs.Schedules.{IsLawful, line_text}
 use Rattle.hm_schedule.specs.declared.line.Line.{Line}

@@ -3,8 +3,8 @@ use Rattle.std.specs.Prelude.{ℕ, ◌^◌, ◌<◌, ◌≤◌, List, [], ◌∷
 use Rattle.hm_base.specs.Spellings.{joined, value_text}
 use Rattle.hm_base.specs.declared.node.GroupKind.{GroupKind}
 use Rattle.hm_base.specs.declared.node.GroupKind.TheVariants as kind
-use Rattle.hm_world.specs.declared.event.Event.{Event}
-use Rattle.hm_world.specs.declared.event.Event.TheVariants as event
+use Rattle.hm_schedule.specs.declared.event.Event.{Event}
+use Rattle.hm_schedule.specs.declared.event.Event.TheVariants as event
 use Rattle.hm_schedule.specs.Ranges.{IsSwitch, IsValue, IsTable, IsLife, IsCapacity}
 use Rattle.hm_schedule.specs.Names.{keyword_text}
 use Rattle.hm_schedule.specs.declared.keyword.Keyword.{Keyword}
@@ -27,6 +27,7 @@ event_keyword event.Drop = keyword.Drop
 event_keyword (event.Tick replica) = keyword.Tick
 event_keyword (event.Stop replica) = keyword.Stop
 event_keyword (event.Remove replica) = keyword.Remove
+event_keyword (event.Timeout replica) = keyword.Timeout
 
 abbrev pub event_fields : Event → List (List ℕ)
 event_fields (event.Write client object value switch) = decimal client ∷ decimal object ∷ value_text value ∷ decimal switch ∷ []
@@ -38,6 +39,7 @@ event_fields event.Drop = []
 event_fields (event.Tick replica) = decimal replica ∷ []
 event_fields (event.Stop replica) = decimal replica ∷ []
 event_fields (event.Remove replica) = decimal replica ∷ []
+event_fields (event.Timeout replica) = decimal replica ∷ []
 
 abbrev pub keyword_in : Line → Keyword
 keyword_in (line.Group kind size) = keyword.Group
@@ -77,6 +79,7 @@ pub record IsResend (client switch : ℕ) : Type 0 where
   pub of_client : client < 2 ^ 32
   pub of_switch : IsSwitch switch
 
+-- replicas time out in a group of Viewstamped Replication alone, and none is built yet
 abbrev pub IsLawfulEvent : Event → Type 0
 IsLawfulEvent (event.Write client object value switch) = IsWrite client object value switch
 IsLawfulEvent (event.Read client object switch) = IsRead client object switch
@@ -87,6 +90,7 @@ IsLawfulEvent event.Drop = Unit {0}
 IsLawfulEvent (event.Tick replica) = replica ≤ 6
 IsLawfulEvent (event.Stop replica) = replica ≤ 6
 IsLawfulEvent (event.Remove replica) = replica ≤ 6
+IsLawfulEvent (event.Timeout replica) = ⊥
 
 -- a chain of one to seven: no other group is built yet
 abbrev pub IsLawfulGroup : GroupKind → ℕ → Type 0

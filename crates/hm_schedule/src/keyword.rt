@@ -17,6 +17,7 @@ pub enum Keyword {
     Tick,
     Stop,
     Remove,
+    Timeout,
 }
 
 /// The keyword that a word is. None exactly for any other word. Most lines of a schedule are the word that is compared first.
@@ -50,6 +51,8 @@ fn rare_keyword_of(word: &[u8]) -> Option<Keyword>
         Some(Keyword::Stop)
     } else if word == b"remove".as_slice() {
         Some(Keyword::Remove)
+    } else if word == b"timeout".as_slice() {
+        Some(Keyword::Timeout)
     } else if word == b"group".as_slice() {
         Some(Keyword::Group)
     } else if word == b"table".as_slice() {

@@ -1,11 +1,11 @@
 ghost use Rattle.std.specs.Prelude.{◌≡◌, ℕ, List, Some, Ok, IfOk, IfErr};
 ghost use Rattle.hm_schedule.specs.Schedules.{IsLawful, line_text};
 
+use crate::event::Event;
 use crate::fields::split_word;
 use crate::keyword::keyword_of;
 use crate::reads::read_fields;
 use hm_base::node::GroupKind;
-use hm_world::event::Event;
 
 /// A line of a schedule: the group, the dirty table, how many packets a switch handles, how many entries a log may have, or an
 /// event.

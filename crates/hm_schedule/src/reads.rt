@@ -3,16 +3,16 @@
 ghost use Rattle.std.specs.Prelude.{◌≡◌, ◌<◌, ◌≤◌, ◌^◌, ℕ, List, [], ◌∷◌, Some, IfSome, codes, decimal};
 ghost use Rattle.hm_base.specs.Spellings.{spaced, value_text};
 ghost use Rattle.hm_base.specs.declared.node.GroupKind.TheVariants.{Chain};
-ghost use Rattle.hm_world.specs.declared.event.Event.TheVariants as event;
+ghost use Rattle.hm_schedule.specs.declared.event.Event.TheVariants as event;
 ghost use Rattle.hm_schedule.specs.Ranges.{IsTable, IsLife, IsCapacity};
 ghost use Rattle.hm_schedule.specs.Reads.{Reads};
 ghost use Rattle.hm_schedule.specs.Schedules.{IsWrite, IsRead, IsResend, IsLawful, keyword_in, field_words};
 
+use crate::event::Event;
 use crate::fields::{next_chain, next_number, next_small, next_value};
 use crate::keyword::Keyword;
 use crate::line::Line;
 use hm_base::node::GroupKind;
-use hm_world::event::Event;
 
 /// The line with this keyword whose fields a text spells. None exactly for any other text.
 pub(crate) fn read_fields(keyword: Keyword, fields: &[u8]) -> Option<Line>
@@ -33,6 +33,7 @@ pub(crate) fn read_fields(keyword: Keyword, fields: &[u8]) -> Option<Line>
         Keyword::Tick => read_tick(fields),
         Keyword::Stop => read_stop(fields),
         Keyword::Remove => read_remove(fields),
+        Keyword::Timeout => None,
     }
 }
 

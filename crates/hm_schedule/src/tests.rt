@@ -1,7 +1,7 @@
+use crate::event::Event;
 use crate::line::{Line, LineReason, read_line};
 use hm_base::node::GroupKind;
 use hm_base::value::Value;
-use hm_world::event::Event;
 use std::test::Fail;
 
 #[test]
@@ -62,5 +62,6 @@ fn refuses_other_bytes(rt: HostRuntime) {
     assert_eq!(rt; read_line(b"read 8 5 0"), none);
     assert_eq!(rt; read_line(b"deliver 4294967296"), none);
     assert_eq!(rt; read_line(b"tick 7"), none);
+    assert_eq!(rt; read_line(b"timeout 0"), none);
     assert_eq!(rt; read_line(b"next "), none);
 }

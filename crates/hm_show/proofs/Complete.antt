@@ -5,8 +5,8 @@ use Rattle.std.specs.List.{AllByRecursion}
 use Rattle.std.specs.Io.KnownBytes.{Consumes, IsAtEnd}
 use Rattle.std.proofs.lemmas.List.{append-nil, length-append, length-drop, take-append-le, drop-append-le}
 use Rattle.hm_packet.specs.Messages.{Message}
-use Rattle.hm_codec.specs.Packets.{HasSpelling}
-use Rattle.hm_codec.specs.declared.malformed.Malformed.{Malformed}
+use Rattle.hm_wire.specs.Packets.{HasSpelling}
+use Rattle.hm_wire.specs.declared.malformed.Malformed.{Malformed}
 use Rattle.hm_outside.specs.Faults.{Faults, one_more, Rose}
 use Rattle.hm_frame.specs.Frames.{head_len, frame, payload_len, IsPart, IsAtFault, IsStuck}
 use Rattle.hm_show.specs.Shows.{max_frames, EndsInside, Shows}

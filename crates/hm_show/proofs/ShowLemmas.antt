@@ -8,7 +8,7 @@ use Rattle.std.proofs.lemmas.Grind.{flat_map-append}
 use Rattle.hm_base.specs.Lists.{IsPrefix}
 use Rattle.hm_packet.specs.Messages.{Message}
 use Rattle.hm_packet.specs.Texts.{packet_text}
-use Rattle.hm_codec.specs.Packets.{HasSpelling}
+use Rattle.hm_wire.specs.Packets.{HasSpelling}
 use Rattle.hm_frame.specs.Frames.{head_len, max_payload_len, frame, payload_len, IsPart, Takes}
 use Rattle.hm_outside.specs.Calls.{CallsAddUp}
 use Rattle.hm_outside.specs.Faults.{Faults, one_more, IsQuiet}

@@ -4,10 +4,10 @@ use Rattle.std.specs.List.{AllByRecursion}
 use Rattle.std.specs.Io.KnownBytes.{Consumes, Appends, IsAtEnd}
 use Rattle.hm_base.specs.Lists.{IsPrefix}
 use Rattle.hm_packet.specs.Messages.{Message}
-use Rattle.hm_codec.specs.Packets.{HasSpelling}
-use Rattle.hm_codec.specs.declared.malformed.Malformed.{Malformed}
-use Rattle.hm_codec.specs.declared.malformed.Reason.{Reason}
-use Rattle.hm_codec.specs.declared.malformed.Reason.TheVariants as reason
+use Rattle.hm_wire.specs.Packets.{HasSpelling}
+use Rattle.hm_wire.specs.declared.malformed.Malformed.{Malformed}
+use Rattle.hm_wire.specs.declared.malformed.Reason.{Reason}
+use Rattle.hm_wire.specs.declared.malformed.Reason.TheVariants as reason
 use Rattle.hm_frame.specs.Frames.{frame, IsPart, IsAtFault}
 use Rattle.hm_outside.specs.Faults.{Faults, IsQuiet, ReadFailed, PutFailed}
 use Rattle.hm_rules.specs.RunText.{line_of, packet_lines, too_long_text}

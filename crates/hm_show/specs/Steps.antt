@@ -2,8 +2,8 @@
 use Rattle.std.specs.Prelude.{◌≡◌, ℕ, Bool, true, false, ◌+◌, ◌<◌, ◌≤◌, List, [], ◌∷◌, ◌++◌, length, flat_map, Option, Some, None, Result, Ok, Err}
 use Rattle.std.specs.List.{AllByRecursion}
 use Rattle.hm_packet.specs.Messages.{Message}
-use Rattle.hm_codec.specs.declared.malformed.Malformed.{Malformed}
-use Rattle.hm_codec.specs.Packets.{HasSpelling}
+use Rattle.hm_wire.specs.declared.malformed.Malformed.{Malformed}
+use Rattle.hm_wire.specs.Packets.{HasSpelling}
 use Rattle.hm_frame.specs.Frames.{frame, IsPart, IsAtFault, Takes}
 use Rattle.hm_outside.specs.declared.device.NotPut.{NotPut}
 use Rattle.hm_outside.specs.declared.device.NotPut.TheVariants as not_put

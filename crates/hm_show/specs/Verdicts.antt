@@ -1,6 +1,6 @@
 -- What is said of the end of an input.
 use Rattle.std.specs.Prelude.{ℕ, zero, suc}
-use Rattle.hm_codec.specs.declared.malformed.Reason.TheVariants as reason
+use Rattle.hm_wire.specs.declared.malformed.Reason.TheVariants as reason
 use Rattle.hm_show.specs.declared.verdict.Verdict.{Verdict}
 use Rattle.hm_show.specs.declared.verdict.Verdict.TheVariants as verdict
 

@@ -1,7 +1,7 @@
 ghost use Rattle.std.specs.Prelude.{◌≡◌, ◌≤◌, ◌⊎◌, ◌++◌, List, Some, length, flat_map};
 ghost use Rattle.std.specs.List.{AllByRecursion};
 ghost use Rattle.hm_packet.specs.Messages.{Message};
-ghost use Rattle.hm_codec.specs.Packets.{HasSpelling};
+ghost use Rattle.hm_wire.specs.Packets.{HasSpelling};
 ghost use Rattle.hm_outside.specs.Faults.{Rose};
 ghost use Rattle.hm_frame.specs.Frames.{frame};
 ghost use Rattle.hm_show.specs.Shows.{max_frames, closing_text, shown_of, Shows};
@@ -11,7 +11,7 @@ ghost use Rattle.hm_show.specs.Steps.{TakesFrames, answer_of};
 use crate::text::{write_closing, write_next_line};
 use crate::verdict::{Verdict, verdict_at_end};
 use hm_base::memory::NoMemory;
-use hm_codec::malformed::Malformed;
+use hm_wire::malformed::Malformed;
 use hm_frame::frame::Unframer;
 use hm_frame::law::{bytes_begin_with_one_frame, pieces_give_the_same_packets};
 use hm_outside::device::{NotPut, Sink, Source, put_all, put_closing, zeros};

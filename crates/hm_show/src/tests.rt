@@ -1,5 +1,5 @@
 use crate::show::{MAX_FRAMES, Shown, show};
-use hm_codec::malformed::{Malformed, Reason};
+use hm_wire::malformed::{Malformed, Reason};
 use hm_outside::memory::{MemorySink, MemorySource};
 use hm_outside::device::{Failed, Source};
 use hm_outside::sure::{SureSink, SureSource};

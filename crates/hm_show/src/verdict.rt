@@ -1,7 +1,7 @@
 ghost use Rattle.std.specs.Prelude.{◌≡◌, ◌^◌, ◌<◌};
 ghost use Rattle.hm_show.specs.Verdicts.{end_of};
 
-use hm_codec::malformed::{Malformed, Reason};
+use hm_wire::malformed::{Malformed, Reason};
 
 /// Why nothing more is shown.
 #[derive(Clone, Copy, Debug, PartialEq, Eq)]

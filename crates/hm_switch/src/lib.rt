@@ -3,5 +3,3 @@
 
 pub mod fault;
 pub mod switch;
-#[cfg(test)]
-mod tests;

@@ -1,14 +1,14 @@
 -- A step is a chain of small changes: what holds in the middle of one, and what it comes to.
-use Rattle.std.proofs.Common.{◌≡◌, ◌⊎◌, ℕ, zero, suc, ◌<◌, ◌≤◌, true, List, [], ◌∷◌, ◌++◌, length, take, drop, Some, refl, sym, ap, subst, ◌∙◌, append_assoc, arith, get_or, inl, inr}
-use Rattle.std.specs.Prelude.{All, max, ◌-◌, ◌&&◌, nat_lt, nat_le, slice_get, slice_set}
+use Rattle.std.proofs.Common.{◌≡◌, ℕ, ◌<◌, ◌≤◌, true, List, [], ◌++◌, length, take, drop, refl, sym, ap, subst, ◌∙◌, append_assoc, arith, get_or, inl, inr}
+use Rattle.std.specs.Prelude.{All, max, ◌-◌, ◌&&◌, nat_lt, nat_le, slice_set}
 use Rattle.std.proofs.lemmas.Bool.{cond_both, and_parts, ltb-true, leb-true}
-use Rattle.std.proofs.lemmas.Option.{none-some, same_Some}
 use Rattle.std.proofs.lemmas.List.{append-nil}
 use Rattle.std.proofs.lemmas.List.Elements.{All-append, All-map, All-weaker}
 use Rattle.hm_base.specs.declared.entry.Entry.{Entry}
 use Rattle.hm_base.specs.declared.entry.Act.{Act}
 use Rattle.hm_base.specs.declared.entry.Act.TheVariants as act
 use Rattle.hm_base.specs.Lists.{IsPrefix}
+use Rattle.hm_base.proofs.ListLaws.{set_at}
 use Rattle.hm_packet.specs.Messages.{Message}
 use Rattle.hm_rules.specs.Declared.{declared_after}
 use Rattle.hm_rules.specs.Replica.{Replica, others}
@@ -134,17 +134,6 @@ module _ (Q : Ghost → Message → Type 0) (stays : Stays Q) (P : List Entry �
 
 -- ---- the world afterwards
 
--- what stands in a list with one item replaced
-pub set_at : {A : Type 0} (xs : List A) (i j : ℕ) (v x : A) → slice_get (slice_set xs i v) j ≡ Some x → ((j ≡ i) × (v ≡ x)) ⊎ ((j ≡ i → ⊥) × (slice_get xs j ≡ Some x))
-set_at [] i j v x a = absurd (none-some x a)
-set_at (y ∷ ys) zero zero v x a = inl (refl, same_Some v x a)
-set_at (y ∷ ys) zero (suc j) v x a = inr (λ (e : suc j ≡ 0). omega arith, a)
-set_at (y ∷ ys) (suc i) zero v x a = inr (λ (e : 0 ≡ suc i). omega arith, a)
-set_at (y ∷ ys) (suc i) (suc j) v x a = elim (set_at ys i j v x a) [
-  | inl new ↦ inl (ap suc new.0, new.1)
-  | inr old ↦ inr (λ (e : suc j ≡ suc i). old.0 (omega arith), old.1)
-]
-
 -- a step has ended
 pub finished : {Q : Ghost → Message → Type 0} {P : List Entry → Type 0} {c : Group} {before : Ghost} {replicas : List Replica} {net : List Message} {n : ℕ} {s : Stepped} → (e : Ends Q P c before replicas net n [] s) → ((m : Message) → Q e.ghost m → Fits c e.ghost m) → GroupHolds c e.ghost (slice_set replicas n s.replica) (net ++ s.outs)
 finished {Q} {P} {c} {before} {replicas} {net} {n} {s} e fits = record {
@@ -152,8 +141,8 @@ finished {Q} {P} {c} {before} {replicas} {net} {n} {s} e fits = record {
   views = e.focus.views;
   casts = e.focus.casts;
   members = λ q r at. elim (set_at replicas n q s.replica r at) [
-    | inl here ↦ subst (λ (x : Replica). MemberHolds c e.ghost q x) here.1 (subst (λ (p : ℕ). MemberHolds c e.ghost p s.replica) (sym here.0) e.focus.mine)
-    | inr other ↦ e.focus.others q r other.1 other.0
+    | inl here ↦ subst (λ (x : Replica). MemberHolds c e.ghost q x) here.1 (subst (λ (p : ℕ). MemberHolds c e.ghost p s.replica) here.0 e.focus.mine)
+    | inr other ↦ e.focus.others q r other.1 (λ (same : q ≡ n). other.0 (sym same))
   ];
   packets = All-append (Fits c e.ghost) net s.outs e.focus.packets (All-weaker (Q e.ghost) (Fits c e.ghost) fits s.outs e.focus.outs);
   last = e.focus.last;

@@ -4,7 +4,7 @@ use Rattle.std.proofs.lemmas.List.Elements.{All-append, All-cons, All-map, All-n
 use Rattle.std.proofs.Common.{List, None, Option, Some, [], ap, arith, get_or, length, refl, subst, sym, take, true, ℕ, ◌++◌, ◌+◌, ◌<◌, ◌∙◌, ◌∷◌, ◌≡◌, ◌≤◌}
 use Rattle.std.proofs.lemmas.Bool.{and_parts, cond_both, eqb-true, false≢true, ltb-false, ltb-true, not-false, or_left, or_right}
 use Rattle.std.proofs.lemmas.List.{length-take-le}
-use Rattle.hm_base.proofs.ListLaws.{each_at, prefix_at, prefix_at_back, prefix_take}
+use Rattle.hm_base.proofs.ListLaws.{each_at, prefix_at, prefix_at_back, prefix_take, filter_at}
 use Rattle.hm_base.specs.Lists.{IsPrefix}
 use Rattle.hm_base.specs.Logs.{end_stamp, greatest_request, is_put, is_write, latest, read_behind, writes}
 use Rattle.hm_base.specs.Stamps.{◌≺◌}
@@ -23,14 +23,13 @@ use Rattle.hm_core_laws.specs.Core.{Core}
 use Rattle.hm_core_laws.specs.Later.{StaysTrue}
 use Rattle.hm_core_laws.specs.Packets.{Holds, IsCompletion, WasAsked, op}
 use Rattle.hm_core_laws.specs.Sourced.{IsSourced}
-use Rattle.hm_due_law.proofs.Commits.{filter_at}
 use Rattle.hm_due_law.proofs.ReadAnswers.{behind_due, look_due}
 use Rattle.hm_due_law.proofs.Requests.{StandsAt, admission_takes, greatest_stands, tidy_look_push, tidy_write_push}
 use Rattle.hm_due_law.specs.Answers.{IsDueNow, IsFresh}
-use Rattle.hm_due_law.specs.Declared.{NoneAbove, WasInvoked, op_of, wanted}
+use Rattle.hm_due_law.specs.Declared.{NoneAbove, WasInvoked, wanted}
 use Rattle.hm_due_law.specs.Tidy.{IsTidy}
 use Rattle.hm_order.proofs.Growth.{want_invoked}
-use Rattle.hm_order.specs.Marks.{At, want_of}
+use Rattle.hm_order.specs.Marks.{At, want_of, op_of}
 use Rattle.hm_packet.specs.Messages.{Message}
 use Rattle.hm_packet.specs.declared.body.FastRead.{FastRead}
 use Rattle.hm_packet.specs.declared.body.FeedAck.{FeedAck}

@@ -21,7 +21,8 @@ use Rattle.hm_view_laws.specs.Facts.{BodyFits, Fits, GroupHolds}
 use Rattle.hm_view_laws.specs.Leads.{Ghost, Group}
 use Rattle.hm_vr_laws.proofs.Here.{group}
 use Rattle.hm_vr_laws.proofs.VrSteps.{after_step, ends_from, sound_from}
-use Rattle.hm_vr_laws.specs.Voted.{HasQuorums, OneAccepted, VrHolds, group_of}
+use Rattle.hm_core_laws.specs.Accepted.{OneAccepted}
+use Rattle.hm_vr_laws.specs.Voted.{HasQuorums, VrHolds, group_of}
 use Rattle.hm_packet.specs.declared.body.Body.TheVariants as body
 
 pub steps_sound : (w : World) → Core w → OneAccepted w → VrHolds w → StepsSound w

@@ -5,11 +5,10 @@ use Rattle.std.proofs.Common.{Some, [], ap, arith, length, refl, subst, suc, sym
 use Rattle.std.proofs.lemmas.Bool.{false≢true}
 use Rattle.std.proofs.lemmas.List.{length-map}
 use Rattle.std.proofs.lemmas.Option.{none-some}
-use Rattle.hm_base.proofs.ListLaws.{prefix_nil}
+use Rattle.hm_base.proofs.ListLaws.{prefix_nil, map_at}
 use Rattle.hm_base.specs.declared.node.GroupKind.TheVariants.{Vr}
 use Rattle.hm_core_laws.proofs.Members.{numbers-length, numbers_at}
 use Rattle.hm_core_laws.specs.Sourced.{IsSourced}
-use Rattle.hm_due_law.proofs.Commits.{map_at}
 use Rattle.hm_due_law.proofs.Tidies.{tidy_nil}
 use Rattle.hm_order.specs.Marks.{At}
 use Rattle.hm_rules.specs.Events.{Setup}

@@ -1,16 +1,11 @@
 -- What holds of a group of Viewstamped Replication after every event.
-use Rattle.std.specs.Prelude.{◌≡◌, ℕ, zero, suc, ◌+◌, ◌-◌, ◌*◌, ◌/◌, ◌%◌, true, false, List, [], ◌∷◌, length, Some, None, slice_get, IsTrue}
+use Rattle.std.specs.Prelude.{◌≡◌, ℕ, zero, suc, ◌+◌, ◌-◌, ◌*◌, ◌/◌, ◌%◌, true, false, List, [], length, None, IsTrue}
 use Rattle.hm_base.specs.declared.entry.Entry.{Entry}
 use Rattle.hm_base.specs.declared.node.GroupKind.TheVariants.{Vr}
 use Rattle.hm_packet.specs.Messages.{Message}
-use Rattle.hm_due_law.specs.Declared.{NoneAbove}
 use Rattle.hm_rules.specs.Senders.{replica_sends}
-use Rattle.hm_rules.specs.Replica.{Replica}
-use Rattle.hm_rules.specs.Numbers.{stands_in}
-use Rattle.hm_rules.specs.Events.{Event}
-use Rattle.hm_rules.specs.Happens.{happens}
-use Rattle.hm_rules.specs.World.{World, is_stopped}
-use Rattle.hm_core_laws.specs.Core.{ListHolds, Core}
+use Rattle.hm_rules.specs.World.{World}
+use Rattle.hm_core_laws.specs.Core.{ListHolds}
 use Rattle.hm_core_laws.specs.Later.{StaysTrue}
 use Rattle.hm_view_laws.specs.Leads.{Lead, Ghost, Group}
 use Rattle.hm_view_laws.specs.Facts.{Fits, GroupHolds}
@@ -31,10 +26,6 @@ Sound w log = ListHolds w.history w.net log
 abbrev pub Good : World → Group → Ghost → Message → Type 0
 Good w c g m = Fits c g m × StaysTrue w g.declared m × IsTrue (replica_sends m.body)
 
--- a live replica takes nothing of a switch below one of which a write was committed
-abbrev pub OneAccepted : World → Type 0
-OneAccepted w = (n : ℕ) (r : Replica) → slice_get w.replicas n ≡ Some r → is_stopped w n ≡ false → NoneAbove w.history r.accepted
-
 -- what the proof remembers before the first event: view 0 has begun with the empty log, which each replica holds
 abbrev pub first_lead : ℕ → Lead
 first_lead zero = record { begun = true; start = 0; log = []; held = λ q. 1 }
@@ -50,13 +41,3 @@ pub record VrHolds (w : World) : Type 0 where
   pub same : ghost.declared ≡ w.declared
   pub group : GroupHolds (group_of (length w.replicas)) ghost w.replicas w.net
   pub logs : (v : ℕ) → (ghost.leads v).begun ≡ true → Sound w (ghost.leads v).log
-
--- core and group of a world of Viewstamped Replication
-pub record IsSound (w : World) : Type 0 where
-  pub core : Core w
-  pub vr : VrHolds w
-
--- one switch is accepted at a time in each world that these events come by, the last one aside
-abbrev pub OneAcceptedOn : ℕ → World → List Event → List ℕ → Type 0
-OneAcceptedOn k w [] refused = Unit {0}
-OneAcceptedOn k w (e ∷ es) refused = OneAccepted w × OneAcceptedOn (k + 1) (happens w e (stands_in k refused)).world es refused

@@ -14,8 +14,8 @@ use Rattle.hm_rules.specs.Replica.{Replica, opened}
 use Rattle.hm_rules.specs.Service.{Service, served, service_route, replicas_below}
 use Rattle.hm_rules.specs.Switch.{opening}
 use Rattle.hm_rules.specs.World as rule
-use Rattle.hm_world.specs.declared.event.Setup.{Setup}
-use Rattle.hm_world.specs.Setups.{setup_of}
+use Rattle.hm_schedule.specs.declared.event.Setup.{Setup}
+use Rattle.hm_schedule.specs.Setups.{setup_of}
 
 -- one more replica
 pub open_more : (members : List ℕ) (cap me : ℕ) (rs new : List Replica) (r : Replica) → rs ≡ map (λ me. opened me members cap) (numbers_from 0 me) → new ≡ rs ++ r ∷ [] → r ≡ opened me members cap

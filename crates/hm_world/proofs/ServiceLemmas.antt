@@ -18,7 +18,7 @@ use Rattle.hm_reconfig.specs.declared.fault.RemoveFault.{RemoveFault}
 use Rattle.hm_reconfig.specs.declared.fault.RemoveFault.TheVariants as fault
 use Rattle.hm_reconfig.specs.Groups.{remove_fault}
 use Rattle.hm_rules.specs.Senders.{same_node, number}
-use Rattle.hm_rules.specs.Numbers.{stands_in}
+use Rattle.hm_rules.specs.Numbers.{stands_in, with_number}
 use Rattle.hm_rules.specs.Service.{Service, Noted, is_fixed, is_member, is_last, is_member_node, removes, notes_refused, on_refused, service_step}
 use Rattle.hm_rules.specs.World.{World, Happened, barred, is_stopped}
 use Rattle.hm_rules.specs.Happens.{serviced, removal}
@@ -33,7 +33,7 @@ pub record IsQuiet (s : Service) (n : Noted) : Type 0 where
 quiet_refused : (s : Service) (from : ℕ) (answer : Refused) → IsQuiet s (notes_refused s from answer)
 quiet_refused s from answer =
     cond_both (not (s.retiring && (answer.switch == s.newest))) (record { service = s; did = did.Ignored why.Status }) _ (IsQuiet s) (λ t. record { kind_is = refl; idle = λ ne. refl })
-    (λ f. cond_both (stands_in from s.refused) (record { service = s; did = did.Ignored why.Repeat }) (record { service = record s { refused = s.refused ++ from ∷ [] }; did = did.Done }) (IsQuiet s)
+    (λ f. cond_both (stands_in from s.refused) (record { service = s; did = did.Ignored why.Repeat }) (record { service = record s { refused = with_number from s.refused }; did = did.Done }) (IsQuiet s)
     (λ t. record { kind_is = refl; idle = λ ne. refl }) (λ t. record { kind_is = refl; idle = λ ne. absurd (ne refl) }))
 
 quiet_body : (s : Service) (src : Node) (b : Body) → IsQuiet s (on_refused s src b)

@@ -8,7 +8,7 @@ use Rattle.hm_base.specs.declared.node.GroupKind.TheVariants as kind
 use Rattle.hm_switch.specs.declared.fault.SwitchFault.{SwitchFault}
 use Rattle.hm_switch.specs.declared.fault.SwitchFault.TheVariants as switch
 use Rattle.hm_switch.specs.Faults.{switch_fault}
-use Rattle.hm_world.specs.declared.event.Setup.{Setup}
+use Rattle.hm_schedule.specs.declared.event.Setup.{Setup}
 use Rattle.hm_world.specs.declared.fault.WorldFault.{WorldFault}
 use Rattle.hm_world.specs.declared.fault.WorldFault.TheVariants as fault
 use Rattle.hm_world.specs.Setups.{is_chain, is_group, setup_fault}

@@ -20,9 +20,9 @@ use Rattle.hm_rules.specs.World.{World, Happened, switch_at}
 use Rattle.hm_rules.specs.Deliveries.{to_node, to_switch, at_switch, turned, with_switch}
 use Rattle.hm_rules.specs.Runs.{put_all, slots_after, slotted_after, finds_full_in}
 use Rattle.hm_refusal_laws.specs.Slotting.{slot_happens}
-use Rattle.hm_world.specs.declared.event.Event.{Event}
+use Rattle.hm_schedule.specs.declared.event.Event.{Event}
 use Rattle.hm_world.specs.declared.state.State.{State}
-use Rattle.hm_world.specs.Setups.{event_of}
+use Rattle.hm_schedule.specs.Setups.{event_of}
 use Rattle.hm_world.specs.Slotted.{Seen}
 use Rattle.hm_world.specs.Running.{Running, switches_in, tables_in, slots_in, full_in, IsTurn}
 use Rattle.hm_world.specs.StateFields.{world_of, slotted_of, Keeps, Quietly, Ends}

@@ -1,6 +1,5 @@
 pub mod Slotted
 pub mod SlottedFields
-pub mod Declares
 pub mod Setups
 pub mod Grouped
 pub mod GroupFields

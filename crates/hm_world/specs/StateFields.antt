@@ -9,7 +9,7 @@ use Rattle.hm_packet.specs.Steps.{max_outs}
 use Rattle.hm_rules.specs.ReplicaSteps.{Stepped}
 use Rattle.hm_rules.specs.Runs.{Slotted, slotted_after}
 use Rattle.hm_rules.specs.World as rule
-use Rattle.hm_world.specs.Declares.{max_events}
+use Rattle.hm_schedule.specs.Limits.{max_events}
 use Rattle.hm_world.specs.Running.{switches_in, slots_in}
 use Rattle.hm_world.specs.declared.state.State.{State}
 

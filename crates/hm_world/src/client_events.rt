@@ -4,7 +4,6 @@ ghost use Rattle.hm_rules.specs.Deliveries as arrival;
 ghost use Rattle.hm_rules.specs.Happens as rules;
 
 use crate::client::{fits, request_to};
-use crate::event::Event;
 use crate::state::State;
 use hm_base::operation::OpId;
 use hm_base::why::Why;
@@ -12,9 +11,10 @@ use hm_order::mark::{Mark, Want};
 use hm_packet::body::{Body, Reply};
 use hm_packet::outcome::{Bar, Outcome};
 use hm_parts::clients::ClientState;
+use hm_schedule::event::Event;
 
 impl State {
-    ghost use Rattle.hm_world.specs.Setups.{event_of};
+    ghost use Rattle.hm_schedule.specs.Setups.{event_of};
     ghost use Rattle.hm_world.specs.StateFields.{world_of, IsBegun, Quietly};
 
     /// A client invokes an operation and sends it to a switch.

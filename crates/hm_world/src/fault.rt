@@ -3,11 +3,11 @@ ghost use Rattle.hm_world.specs.Settled as settled;
 ghost use Rattle.hm_world.specs.Setups as setups;
 ghost use Rattle.hm_world.specs.declared.fault.WorldFault.TheVariants as fault;
 
-use crate::event::Setup;
 use hm_base::memory::NoMemory;
 use hm_base::node::GroupKind;
 use hm_packet::outcome::Bar;
 use hm_reconfig::fault::RemoveFault;
+use hm_schedule::event::Setup;
 use std::alloc::AllocError;
 use thiserror::Error;
 

@@ -4,7 +4,6 @@
 mod arrivals;
 mod client;
 mod client_events;
-pub mod event;
 pub mod fault;
 pub mod group;
 mod replica_events;

@@ -7,7 +7,6 @@ ghost use Rattle.hm_rules.specs.Happens as rules;
 ghost use Rattle.hm_rules.specs.World as rule;
 ghost use Rattle.hm_world.specs.Settled.{settled, live_bar, removal_bar};
 
-use crate::event::Event;
 use crate::fault::bar_of;
 use crate::state::State;
 use hm_base::node::Node;
@@ -16,9 +15,10 @@ use hm_packet::acted::{Acted, Did};
 use hm_packet::outcome::{Bar, Outcome};
 use hm_packet::packet::Packet;
 use hm_replica::group::is_member;
+use hm_schedule::event::Event;
 
 impl State {
-    ghost use Rattle.hm_world.specs.Setups.{event_of};
+    ghost use Rattle.hm_schedule.specs.Setups.{event_of};
     ghost use Rattle.hm_world.specs.StateFields.{world_of, HasRoom, IsBegun, Quietly};
 
     /// A packet arrives at a replica.

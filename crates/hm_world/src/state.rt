@@ -2,9 +2,8 @@ ghost use Rattle.std.specs.Prelude.{option_copied, ◌≡◌, ◌<◌, ◌≤◌
 ghost use Rattle.hm_rules.specs.Runs.{slotted};
 ghost use Rattle.hm_refusal_laws.specs.Slotting.{slot_happens, slot_step};
 ghost use Rattle.hm_rules.specs.World as rule;
-ghost use Rattle.hm_world.specs.Declares.{max_events, max_packets};
+ghost use Rattle.hm_schedule.specs.Limits.{max_events, max_packets};
 
-use crate::event::{Event, Setup};
 use crate::fault::{WorldFault, fault_of};
 use crate::group::Group;
 use crate::switches::Switches;
@@ -12,12 +11,13 @@ use hm_base::memory::NoMemory;
 use hm_order::history::History;
 use hm_order::mark::Want;
 use hm_packet::acted::Acted;
-use hm_packet::outcome::Outcome;
+use hm_packet::outcome::{Bar, Outcome};
 use hm_packet::packet::Packet;
 use hm_parts::clients::Clients;
 use hm_parts::net::Net;
 use hm_parts::observer::Observer;
 use hm_reconfig::service::Service;
+use hm_schedule::event::{Event, Setup};
 use std::alloc::Global;
 
 /// All nodes of one group, the net of all packets ever sent, the clients and what an observer writes down. The rules' world for it is
@@ -36,7 +36,8 @@ pub struct State {
 }
 
 impl State {
-    ghost use Rattle.hm_world.specs.Setups.{setup_of, setup_fault, event_of};
+    ghost use Rattle.hm_schedule.specs.Setups.{setup_of, event_of};
+    ghost use Rattle.hm_world.specs.Setups.{setup_fault};
     ghost use Rattle.hm_world.specs.StateFields.{world_of, slotted_of, IsReady, IsKept, IsBegun, Ends};
 
     /// The state before the first event. The faults are as those of the world.
@@ -131,6 +132,7 @@ impl State {
             Event::Tick { replica } => self.tick(*replica, acted),
             Event::Stop { replica } => self.stop(*replica),
             Event::Remove { replica } => self.remove(*replica),
+            Event::Timeout { .. } => Outcome::NotAllowed(Bar::NotVr),
         }
     }
 

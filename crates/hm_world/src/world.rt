@@ -2,9 +2,8 @@ ghost use Rattle.std.specs.Prelude.{option_copied, ◌≡◌, ◌<◌, ◌≤◌
 ghost use Rattle.hm_rules.specs.World as rule;
 ghost use Rattle.hm_rules.specs.Runs.{slotted};
 ghost use Rattle.hm_refusal_laws.specs.Slotting.{slot_happens, slot_step};
-ghost use Rattle.hm_world.specs.Declares.{max_events, max_packets};
+ghost use Rattle.hm_schedule.specs.Limits.{max_events, max_packets};
 
-use crate::event::{Event, Setup};
 use crate::fault::WorldFault;
 use crate::state::State;
 use hm_base::memory::NoMemory;
@@ -14,6 +13,7 @@ use hm_packet::acted::Acted;
 use hm_packet::outcome::Outcome;
 use hm_packet::packet::Packet;
 use hm_replica::acts::blank;
+use hm_schedule::event::{Event, Setup};
 use std::alloc::Global;
 use std::marker::Model;
 
@@ -36,7 +36,8 @@ impl Model for World {
 }
 
 impl World {
-    ghost use Rattle.hm_world.specs.Setups.{setup_of, setup_fault, event_of};
+    ghost use Rattle.hm_schedule.specs.Setups.{setup_of, event_of};
+    ghost use Rattle.hm_world.specs.Setups.{setup_fault};
     ghost use Rattle.hm_world.specs.WorldFields.{with_slots};
 
     /// A world before its first event: switch 1 is started, and nothing was sent. The faults come exactly where that part of

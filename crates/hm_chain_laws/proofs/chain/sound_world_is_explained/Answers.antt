@@ -1,4 +1,3 @@
-use Rattle.hm_order.proofs.Explained.{order_explains}
 use Rattle.hm_chain_laws.proofs.chain.sound_world_is_explained.Goals as goal
 
 pub returns-clause-formed : goal.returns-clause-formed
@@ -8,4 +7,4 @@ pub returns-clause-due : goal.returns-clause-due
 returns-clause-due c = λ w sound. sound.core.agree.due
 
 pub returns-clause-legal : goal.returns-clause-legal
-returns-clause-legal c = λ w sound. order_explains w.history sound.core.agree.formed sound.core.agree.due
+returns-clause-legal c = λ w sound. c.core_explains_history.ensures w sound.core

@@ -3,7 +3,7 @@ use Rattle.std.specs.Prelude.{flat_map}
 use Rattle.hm_packet.specs.declared.field.Field.{Field}
 use Rattle.hm_packet.specs.Fields.{fields}
 use Rattle.hm_packet.specs.Messages.{Message}
-use Rattle.hm_codec.specs.Packets.{field_numbers, code}
+use Rattle.hm_wire.specs.Packets.{field_numbers, code}
 use Rattle.hm_codec.specs.Writing.{Adds, Writes, all_fields}
 use Rattle.hm_codec.proofs.Writers.{Written, written}
 use Rattle.hm_codec.proofs.encode.encode.Goals as goal
@@ -17,6 +17,6 @@ returns c =
     let all : Writes (all_fields (fields m.body)) (flat_map field_numbers (fields m.body)) c.push_node-2.new.buf c.push_fields.new.buf =
     subst (λ (fs : List Field). Writes (all_fields fs) (flat_map field_numbers fs) c.push_node-2.new.buf c.push_fields.new.buf) same c.push_fields.ensures in
     let w : Written m c.push_tail.new.buf =
-    written m c.push.new.self c.push_node.new.buf c.push_node-2.new.buf c.push_fields.new.buf c.push_tail.new.buf first c.push_node.ensures c.push_node-2.ensures all c.push_tail.ensures in
+    written c.spelling_is_short.ensures m c.push.new.self c.push_node.new.buf c.push_node-2.new.buf c.push_fields.new.buf c.push_tail.new.buf first c.push_node.ensures c.push_node-2.ensures all c.push_tail.ensures in
     let v : Written c.args.packet.now c.push_tail.new.buf = subst (λ (x : Message). Written x c.push_tail.new.buf) c.packet.view_is w in
     record { spelled = v.same; lawful = v.lawful; longest = v.longest }

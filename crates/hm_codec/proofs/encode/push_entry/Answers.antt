@@ -1,4 +1,4 @@
-use Rattle.hm_codec.specs.Grammar.Size.{U32, U64}
+use Rattle.hm_wire.specs.Grammar.Size.{U32, U64}
 use Rattle.hm_codec.proofs.Writers.{writes_any, writes_entry}
 use Rattle.hm_codec.proofs.encode.push_entry.Goals as goal
 

@@ -1,8 +1,8 @@
 use Rattle.std.proofs.Common.{◌≡◌, ◌≤◌, true, arith}
 use Rattle.std.proofs.lemmas.Bool.Decides.{nat_tests}
-use Rattle.hm_codec.specs.declared.malformed.Reason.TheVariants as reason
-use Rattle.hm_codec.specs.Grammar.Size.{U8, U32, U64}
-use Rattle.hm_codec.specs.Packets.{is_within}
+use Rattle.hm_wire.specs.declared.malformed.Reason.TheVariants as reason
+use Rattle.hm_wire.specs.Grammar.Size.{U8, U32, U64}
+use Rattle.hm_wire.specs.Packets.{is_within}
 use Rattle.hm_codec.proofs.Writers.{writes_any, writes_number}
 use Rattle.hm_codec.proofs.encode.push_field.Goals as goal
 

@@ -1,6 +1,6 @@
 use Rattle.std.proofs.Common.{ℕ, List, drop}
 use Rattle.std.specs.Prelude.{flat_map}
-use Rattle.hm_codec.specs.Packets.{field_numbers}
+use Rattle.hm_wire.specs.Packets.{field_numbers}
 use Rattle.hm_codec.specs.Writing.{Writes, all_fields}
 use Rattle.hm_codec.proofs.encode.push_fields.Given as goal
 

@@ -1,6 +1,6 @@
 use Rattle.std.proofs.Common.{ℕ, List, drop, length}
 use Rattle.std.specs.Prelude.{flat_map}
-use Rattle.hm_codec.specs.Packets.{many, entry_numbers}
+use Rattle.hm_wire.specs.Packets.{many, entry_numbers}
 use Rattle.hm_codec.specs.Writing.{Writes}
 use Rattle.hm_codec.proofs.encode.push_many.Given as goal
 

@@ -1,6 +1,6 @@
 use Rattle.std.proofs.Common.{[], ◌∷◌}
-use Rattle.hm_codec.specs.Grammar.{number}
-use Rattle.hm_codec.specs.Grammar.Size.{U32, U64}
+use Rattle.hm_wire.specs.Grammar.{number}
+use Rattle.hm_wire.specs.Grammar.Size.{U32, U64}
 use Rattle.hm_codec.proofs.Writers.{writes_any, writes_then}
 use Rattle.hm_codec.proofs.encode.push_stamp.Goals as goal
 

@@ -1,7 +1,7 @@
 use Rattle.std.proofs.Common.{◌≡◌, ◌+◌, ◌≤◌, ◌++◌, length, take, map}
 use Rattle.std.specs.Prelude.{vec_capacity}
 use Rattle.hm_base.specs.Logs.{writes}
-use Rattle.hm_rules.specs.Declared.{commit_of}
+use Rattle.hm_order.specs.Marks.{commit_of}
 use Rattle.hm_parts.proofs.observer.declare_all.Given as goal
 
 abbrev pub invariant-loop-entry : goal.invariant-loop-entry

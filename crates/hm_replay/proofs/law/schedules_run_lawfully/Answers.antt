@@ -4,7 +4,7 @@ use Rattle.std.proofs.lemmas.List.Elements.{All-from_recursion}
 use Rattle.hm_base.specs.declared.node.GroupKind.TheVariants as kind
 use Rattle.hm_rules.specs.Events.{Setup}
 use Rattle.hm_group_laws.specs.Groups.{CanForm}
-use Rattle.hm_world.specs.Declares.{max_events}
+use Rattle.hm_schedule.specs.Limits.{max_events}
 use Rattle.hm_schedule.specs.Orders.{IsBegun, setup_in, events_in}
 use Rattle.hm_schedule.specs.Reasons.{reason_text}
 use Rattle.hm_schedule.specs.declared.line.Line.{Line}

@@ -1,5 +1,5 @@
 use Rattle.std.proofs.Common.{◌≡◌, ◌+◌, ◌<◌, ℕ, [], refl, ap, sym, subst, ◌∙◌, arith}
-use Rattle.hm_world.specs.Declares.{max_events}
+use Rattle.hm_schedule.specs.Limits.{max_events}
 use Rattle.hm_schedule.specs.Orders.{Stage}
 use Rattle.hm_outside.specs.Faults.{one_more}
 use Rattle.hm_replay.specs.Nexts.{EventComes}

@@ -1,5 +1,5 @@
 use Rattle.std.proofs.Common.{◌≡◌, ◌-◌}
-use Rattle.hm_world.specs.Declares.{max_events}
+use Rattle.hm_schedule.specs.Limits.{max_events}
 use Rattle.hm_replay.proofs.Progress.{Ahead}
 use Rattle.hm_replay.proofs.replay.replay.Given as goal
 

@@ -2,7 +2,8 @@ use Rattle.std.proofs.Common.{◌≡◌, ℕ, ◌<◌, List, length, take, map, 
 use Rattle.std.specs.Prelude.{min, vec_len}
 use Rattle.hm_base.specs.Logs.{writes}
 use Rattle.hm_base.specs.declared.entry.Entry.{Entry}
-use Rattle.hm_rules.specs.Declared.{declared_after, commits_since, commit_of}
+use Rattle.hm_order.specs.Marks.{commit_of}
+use Rattle.hm_rules.specs.Declared.{declared_after, commits_since}
 use Rattle.hm_parts.specs.Seen.{Noted}
 use Rattle.hm_parts.specs.ObserverFields.{noted_of}
 use Rattle.hm_parts.proofs.DeclareLemmas.{declares}

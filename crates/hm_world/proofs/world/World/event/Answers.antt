@@ -1,5 +1,5 @@
 use Rattle.hm_rules.specs.Runs.{finds_full}
-use Rattle.hm_world.specs.Setups.{event_of}
+use Rattle.hm_schedule.specs.Setups.{event_of}
 use Rattle.hm_world.specs.StateFields.{world_of, slotted_of}
 use Rattle.hm_world.proofs.SoundLemmas.{sound_after}
 use Rattle.hm_world.proofs.world.World.event.Goals as goal

@@ -2,7 +2,7 @@ use Rattle.std.proofs.Common.{sym, ap, subst}
 use Rattle.hm_chain_laws.specs.Chained.{IsSound}
 use Rattle.hm_rules.specs.Runs.{Slotted}
 use Rattle.hm_rules.specs.World.{World}
-use Rattle.hm_world.specs.Setups.{setup_of}
+use Rattle.hm_schedule.specs.Setups.{setup_of}
 use Rattle.hm_world.proofs.SetupLemmas.{lawful}
 use Rattle.hm_world.proofs.world.World.open.Goals as goal
 

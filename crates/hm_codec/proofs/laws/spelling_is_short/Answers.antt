@@ -1,5 +1,0 @@
-use Rattle.hm_codec.proofs.Lengths.{length-spelling}
-use Rattle.hm_codec.proofs.laws.spelling_is_short.Goals as goal
-
-pub returns : goal.returns
-returns c = λ m h. length-spelling m h

@@ -1,0 +1,151 @@
+use hm_base::entries::Entries;
+use hm_base::entry::{Act, Entry};
+use hm_base::members::{Members, NotRising};
+use hm_base::node::Node;
+use hm_base::operation::{Answer, OpId};
+use hm_base::spelling::{read_number, read_value};
+use hm_base::stamp::{Stamp, is_at_most, is_below};
+use hm_base::steps::{Counted, Steps, Uncounted};
+use hm_base::text::{write_act, write_answer, write_node, write_op, write_stamp};
+use hm_base::value::{Value, is_same_value};
+use std::test::Fail;
+
+#[test]
+fn orders_stamps_by_switch_then_number(rt: HostRuntime) {
+    let late = Stamp { switch: 1, seq: 9 };
+    let next = Stamp { switch: 2, seq: 1 };
+    assert!(rt; is_below(late, next) && is_at_most(late, next));
+    assert!(rt; is_below(Stamp::LEAST, late) && !is_below(late, late));
+    assert!(rt; is_at_most(late, late) && !is_at_most(next, late));
+}
+
+#[test]
+fn holds_values_of_64_bytes_at_most(rt: HostRuntime) -> Result<(), Fail> {
+    let long = [97; 65];
+    assert!(rt; Value::from_slice(&long).is_none());
+    let value = Value::from_slice(&long[..64]).ok_or("64 bytes")?;
+    assert_eq!(rt; value.as_slice(), &long[..64]);
+    let copy = value;
+    assert!(rt; is_same_value(&value, &copy));
+    let shorter = Value::from_slice(&long[..63]).ok_or("63 bytes")?;
+    assert!(rt; !is_same_value(&value, &shorter));
+    Ok(())
+}
+
+#[test]
+fn reads_numbers_in_one_spelling(rt: HostRuntime) {
+    assert_eq!(rt; read_number(b"0"), Some(0));
+    assert_eq!(rt; read_number(b"18446744073709551615"), Some(u64::MAX));
+    let refused: [&[u8]; 8] = [
+        b"",
+        b"01",
+        b"00",
+        b"+1",
+        b"-1",
+        b"1 ",
+        b"0x1",
+        b"18446744073709551616",
+    ];
+    for text in refused {
+        assert!(rt; read_number(text).is_none());
+    }
+}
+
+#[test]
+fn reads_values_in_one_spelling(rt: HostRuntime) -> Result<(), Fail> {
+    let none = read_value(b"empty").ok_or("no bytes")?;
+    assert!(rt; none.as_slice().is_empty());
+    let some = read_value(b"00a9ff").ok_or("three bytes")?;
+    assert_eq!(rt; some.as_slice(), [0, 0xa9, 0xff].as_slice());
+    let digits = [b'6'; 130];
+    let long = read_value(&digits[..128]).ok_or("64 bytes")?;
+    assert_eq!(rt; long.as_slice(), [0x66; 64].as_slice());
+    assert!(rt; read_value(&digits).is_none());
+    let refused: [&[u8]; 5] = [b"", b"6", b"A9", b"6g", b"EMPTY"];
+    for text in refused {
+        assert!(rt; read_value(text).is_none());
+    }
+    Ok(())
+}
+
+#[test]
+fn holds_members_in_rising_order(rt: HostRuntime) -> Result<(), Fail> {
+    assert!(rt; Members::first(7).is_none());
+    let mut members = Members::first(2).ok_or("a replica")?;
+    assert_eq!(rt; members.try_push(2), Err(NotRising));
+    assert_eq!(rt; members.try_push(5), Ok(()));
+    assert_eq!(rt; members.try_push(7), Err(NotRising));
+    let copy = members.copy();
+    assert_eq!(rt; copy.as_slice(), [2, 5].as_slice());
+    assert_eq!(rt; copy.len(), 2);
+    assert_eq!(rt; copy.get(1), Some(5));
+    assert_eq!(rt; copy.get(2), None);
+    Ok(())
+}
+
+#[test]
+fn holds_sixteen_entries(rt: HostRuntime) -> Result<(), Fail> {
+    let value = Value::from_slice(b"a").ok_or("a value")?;
+    let act = Act::Put(value);
+    let write = Entry {
+        stamp: Stamp { switch: 1, seq: 1 },
+        client: 7,
+        request: 1,
+        object: 5,
+        act,
+    };
+    assert!(rt; write.is_write());
+    let mut entries = Entries::new();
+    for _ in 0..16 {
+        assert!(rt; entries.try_push(write).is_ok());
+    }
+    assert!(rt; entries.try_push(write).is_err());
+    let copy = entries.copy();
+    assert_eq!(rt; copy.len(), 16);
+    assert_eq!(rt; copy.as_slice().len(), 16);
+    assert!(rt; copy.get(15).is_some());
+    assert!(rt; copy.get(16).is_none());
+    Ok(())
+}
+
+#[test]
+fn writes_words(rt: HostRuntime) -> Result<(), Fail> {
+    let value = Value::from_slice(&[0x61, 0x0f]).ok_or("a value")?;
+    let none = Value::from_slice(&[]).ok_or("no bytes")?;
+    let mut out = Vec::new(rt.alloc());
+    write_stamp(Stamp { switch: 1, seq: 9 }, &mut out)?;
+    let op = OpId {
+        client: 7,
+        request: 10,
+    };
+    write_op(op, &mut out)?;
+    write_answer(&Answer::Wrote, &mut out)?;
+    write_answer(&Answer::Nothing, &mut out)?;
+    write_answer(&Answer::Found(value), &mut out)?;
+    write_act(&Act::Put(none), &mut out)?;
+    write_act(&Act::Look, &mut out)?;
+    for node in [
+        Node::Client(7),
+        Node::Switch(1),
+        Node::Replica(0),
+        Node::Config,
+    ] {
+        write_node(node, &mut out)?;
+    }
+    assert_eq!(rt;
+        out.as_slice(),
+        b"1.97.10wrotenone610femptylookc7s1r0cfg".as_slice()
+    );
+    Ok(())
+}
+
+#[test]
+fn counts_steps(rt: HostRuntime) {
+    let mut steps: Steps<Counted> = Steps::new();
+    assert_eq!(rt; steps.shown(), 0);
+    steps.tick();
+    steps.tick();
+    assert_eq!(rt; steps.shown(), 2);
+    let mut uncounted: Steps<Uncounted> = Steps::new();
+    uncounted.tick();
+}

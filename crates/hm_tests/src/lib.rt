@@ -1,0 +1,25 @@
+//! The tests of the crates below, in one crate, so that each of those is proved once: a module for each crate.
+#![tactic(auto)]
+
+#[cfg(test)]
+mod base;
+#[cfg(test)]
+mod chain;
+#[cfg(test)]
+mod codec;
+#[cfg(test)]
+mod dirtyset;
+#[cfg(test)]
+mod feed;
+#[cfg(test)]
+mod links;
+#[cfg(test)]
+mod order;
+#[cfg(test)]
+mod packet;
+#[cfg(test)]
+mod reconfig;
+#[cfg(test)]
+mod shim;
+#[cfg(test)]
+mod switch;

@@ -1,0 +1,45 @@
+-- What decoding gives.
+use Rattle.std.proofs.Common.{◌≡◌, ℕ, ◌-◌, ◌≤◌, min, List, length, Some, None, Result, Ok, Err, refl, sym, ap, subst, ◌∙◌, arith}
+use Rattle.std.specs.Prelude.{◌↔◌, IsOk, IfOk, IfErr}
+use Rattle.hm_packet.specs.Messages.{Message}
+use Rattle.hm_wire.specs.declared.fault.Fault.{Fault}
+use Rattle.hm_wire.specs.declared.head.Head.{Head}
+use Rattle.hm_wire.specs.declared.malformed.Malformed.{Malformed}
+use Rattle.hm_wire.specs.Grammar.{spell}
+use Rattle.hm_wire.specs.Packets.{packet_fields, numbers, spelling, first_fault, HasSpelling}
+use Rattle.hm_wire.specs.Reading.{◌>>=◌, Part, head_at, body_at, end_with, packet_of, located_at, located}
+use Rattle.hm_wire.specs.Exact.{IsBytes, IsExact}
+use Rattle.hm_wire.proofs.GrammarLaws.{no_fault}
+use Rattle.hm_wire.proofs.Readers.{placed}
+use Rattle.hm_wire.proofs.PacketReader.{packet_good, packet_bad}
+use Rattle.hm_wire.proofs.Lengths.{first_fault-place}
+
+pub spelled_well : (m : Message) → HasSpelling m → first_fault (spelling m) ≡ None
+unfolding spelling first_fault HasSpelling
+spelled_well m h = no_fault packet_fields (numbers m) (length (spell packet_fields (numbers m))) h
+
+-- what is read off the bytes is exact
+pub reading_exact : (bytes : List ℕ) → IsBytes bytes → IsExact bytes (located (length bytes) (packet_of bytes))
+reading_exact bytes fits = by_case (packet_of bytes) refl
+  where
+    by_case : (read : Result Message Fault) → packet_of bytes ≡ read → IsExact bytes (located (length bytes) read)
+    by_case (Ok m) got =
+        let h = packet_good bytes m fits got in
+        record {
+          ok = h.1;
+          lawful = h.0;
+          exact = (λ t. ap (λ (l : List ℕ). first_fault l) (sym h.1) ∙ spelled_well m h.0, λ n. refl);
+          err = tt;
+          place = tt;
+        }
+    by_case (Err f) got =
+        let e : first_fault bytes ≡ Some (placed (length bytes) f) = packet_bad bytes f fits got in
+        let le : length bytes - f.left ≤ 1533 = first_fault-place bytes (placed (length bytes) f) e in
+        let at : length bytes - f.left ≡ min (length bytes - f.left) 4294967295 = omega arith in
+        record {
+          ok = tt;
+          lawful = tt;
+          exact = (λ no. absurd cc, λ none. absurd cc);
+          err = e ∙ ap (λ (k : ℕ). Some (record { at = k; reason = f.reason })) at;
+          place = omega arith;
+        }

@@ -1,0 +1,4 @@
+pub mod Grammar
+pub mod Packets
+pub mod Reading
+pub mod Exact
