@@ -3,5 +3,3 @@
 
 pub mod frame;
 pub mod law;
-#[cfg(test)]
-mod tests;

@@ -15,16 +15,16 @@ use Rattle.hm_schedule.specs.Setups.{setup_of, event_of}
 use Rattle.hm_world.specs.WorldFields.{Held, with_slots}
 use Rattle.hm_schedule.specs.declared.event.Event.{Event}
 use Rattle.hm_schedule.specs.LineTexts.{IsLine}
-use Rattle.hm_schedule.specs.Orders.{Stage, IsBegun, IsSchedule, IsOutside, after, stage_of, events_at, line_bytes, lines_text, setup_in, events_in}
+use Rattle.hm_schedule.specs.Orders.{Stage, IsBegun, IsSchedule, IsOutside, BreaksOff, after, stage_of, events_at, line_bytes, lines_text, setup_in, events_in}
 use Rattle.hm_schedule.specs.Reasons.{reason_text}
 use Rattle.hm_schedule.specs.declared.line.Line.{Line}
 use Rattle.hm_schedule.specs.declared.line.Line.TheVariants as line
 use Rattle.hm_schedule.specs.declared.line.LineReason.{LineReason}
 use Rattle.hm_schedule.specs.declared.line.LineReason.TheVariants.{Word}
-use Rattle.hm_replay.specs.Lines.{Moves}
-use Rattle.hm_replay.specs.Openings.{Says, max_opening, opening_bound}
-use Rattle.hm_replay.specs.Nexts.{ComesBadly, EventComes, Opens, OpensCut}
-use Rattle.hm_replay.specs.Replays.{full_in, world_in, events_text_of, history_in, end_text, ShowsFull, BreaksOff, IsCutRun, IsPartialRun, IsClosing}
+use Rattle.hm_schedule.specs.Lines.{Moves}
+use Rattle.hm_schedule.specs.Openings.{Says, max_opening, opening_bound}
+use Rattle.hm_schedule.specs.Nexts.{ComesBadly, EventComes, Opens, OpensCut}
+use Rattle.hm_replay.specs.Replays.{full_in, world_in, events_text_of, history_in, end_text, ShowsFull, IsCutRun, IsPartialRun, IsClosing}
 use Rattle.hm_outside.specs.Calls.{CallsAddUp}
 use Rattle.hm_outside.specs.Faults.{Faults, one_more, IsQuiet}
 use Rattle.hm_outside.specs.Puts.{Puts}
@@ -32,13 +32,12 @@ use Rattle.hm_outside.specs.declared.device.NotPut.{NotPut}
 use Rattle.hm_outside.specs.declared.device.NotPut.TheVariants as not_put
 use Rattle.hm_replay.specs.Lawful.{RunsLawfully, slotted_in}
 use Rattle.hm_replay.specs.Statuses.{Ends, ended}
-use Rattle.hm_replay.specs.declared.opening.Opening.{Opening}
-use Rattle.hm_replay.specs.declared.reading.NextEvent.{NextEvent}
-use Rattle.hm_replay.specs.declared.reading.NextEvent.TheVariants as next_event
+use Rattle.hm_schedule.specs.declared.opening.Opening.{Opening}
+use Rattle.hm_schedule.specs.declared.reading.NextEvent.{NextEvent}
+use Rattle.hm_schedule.specs.declared.reading.NextEvent.TheVariants as next_event
 use Rattle.hm_replay.specs.declared.status.Status.{Status}
 use Rattle.hm_replay.specs.declared.status.Status.TheVariants as status
-use Rattle.hm_replay.proofs.LinePushes.{stage_push, setup_push, event_push, begun_push, few_events, stage_count}
-use Rattle.hm_replay.proofs.LinePushes as line_pushes
+use Rattle.hm_schedule.specs.Fronts.{GrowsByLines}
 
 -- what moved, whatever came
 pub event_moves : (stage : Stage) (next : NextEvent) (old new : List ℕ) (left now : Option (List ℕ)) → EventComes stage next old new left now → (cut : List ℕ) × Moves old new left now cut
@@ -58,12 +57,6 @@ pub record Progress (w : Held) (opened : ℕ) (lines : List Line) (ahead : List 
   pub opening : opened ≤ max_opening
   pub count : length lines ≡ opened + w.events
 
--- the opening lines so far
-pub record Opened (o : Opening) (ahead : List ℕ) (left now : Option (List ℕ)) : Type 0 where
-  pub lines : List Line
-  pub says : Says o lines
-  pub read : Consumes left now (lines_text lines ++ ahead)
-
 -- and what comes next, which was read already
 pub record Ahead (w : Held) (opened : ℕ) (next : NextEvent) (new : List ℕ) (left now held put : Option (List ℕ)) : Type 0 where
   pub lines : List Line
@@ -74,30 +67,6 @@ pub record Ahead (w : Held) (opened : ℕ) (next : NextEvent) (new : List ℕ) (
 
 no_step : (lines : List Line) → events_in lines ≡ [] → slotted_in lines ≡ slotted (opens (setup_in lines))
 no_step lines none = ap (λ (es : List rule.Event). slot_run (slotted (opens (setup_in lines))) es) none
-
--- what comes next comes behind so many events
-pub ahead_more : (v : Held) (opened : ℕ) (lines : List Line) (e : Event) (next : NextEvent) (old new : List ℕ) (left now later held put : Option (List ℕ))
-    → Progress v opened (lines ++ line.Event e ∷ []) old left now held put → EventComes (Stage.Running v.events) next old new now later
-    → Ahead v opened next new left later held put
-ahead_more v opened lines e next old new left now later held put p comes =
-    let at : events_at (stage_of (lines ++ line.Event e ∷ [])) ≡ v.events = stage_count (lines ++ line.Event e ∷ []) p.begun ∙ sym p.events_are in
-    let stage : stage_of (lines ++ line.Event e ∷ []) ≡ Stage.Running (events_at (stage_of lines) + 1) = stage_push lines (line.Event e) in
-    let same : Stage.Running v.events ≡ stage_of (lines ++ line.Event e ∷ []) = ap Stage.Running (sym at ∙ ap events_at stage) ∙ sym stage in
-    record {
-      lines = lines ++ line.Event e ∷ [];
-      old = old;
-      between = now;
-      progress = p;
-      comes = subst (λ (s : Stage). EventComes s next old new now later) same comes;
-    }
-
--- where an event comes next, there may be one more
-pub few_more : (w : Held) (opened : ℕ) (new : List ℕ) (left now held put : Option (List ℕ)) (e : Event) → Ahead w opened (next_event.Event e) new left now held put → w.events < max_events
-few_more w opened new left now held put e a =
-    let few : events_at (stage_of a.lines) < max_events = few_events (stage_of a.lines) e a.comes.0.1 in
-    let at : events_at (stage_of a.lines) ≡ length (events_in a.lines) = stage_count a.lines a.progress.begun in
-    let count : w.events ≡ length (events_in a.lines) = a.progress.events_are in
-    omega arith
 
 breaks_off : (begun : List Line) (ahead : List ℕ) (left now : Option (List ℕ)) → Consumes left now (lines_text begun ++ ahead)
     → ((bytes : List ℕ) → now ≡ Some bytes → IsOutside (stage_of begun) (ahead ++ bytes)) → IfSome left (BreaksOff begun)
@@ -114,7 +83,7 @@ some_line lines begun none = begun (ap stage_of none)
 
 -- ---- over calls of a source and a sink, and the runs of schedules
 
-module _ (calls : CallsAddUp) (runs : RunsLawfully) where
+module _ (calls : CallsAddUp) (runs : RunsLawfully) (grow : GrowsByLines) where
   -- what was taken so far, after a move of the reader
   pub read_on : (left now later : Option (List ℕ)) (text old new cut : List ℕ) → Consumes left now (text ++ old) → Moves old new now later cut → Consumes left later (text ++ (cut ++ new))
   read_on left now later text old new cut before moves =
@@ -125,7 +94,7 @@ module _ (calls : CallsAddUp) (runs : RunsLawfully) where
   pub read_line_more : (lines : List Line) (l : Line) (old new : List ℕ) (left now later : Option (List ℕ)) → Consumes left now (lines_text lines ++ old) → Moves old new now later (line_bytes l)
       → Consumes left later (lines_text (lines ++ l ∷ []) ++ new)
   read_line_more lines l old new left now later read moves =
-      subst (λ (t : List ℕ). Consumes left later t) (sym (append_assoc (lines_text lines) (line_bytes l) new) ∙ ap (λ (t : List ℕ). t ++ new) (sym (line_pushes.text_push lines l)))
+      subst (λ (t : List ℕ). Consumes left later t) (sym (append_assoc (lines_text lines) (line_bytes l) new) ∙ ap (λ (t : List ℕ). t ++ new) (sym (grow.text lines l)))
       (read_on left now later (lines_text lines) old new (line_bytes l) read moves)
 
   -- nothing happens in the opening lines
@@ -163,8 +132,8 @@ module _ (calls : CallsAddUp) (runs : RunsLawfully) where
       happened
       ∙ ap (λ (x : Slotted). slot_step x (event_of e)) is
       ∙ sym (runs.one_more (slotted (opens (setup_in lines))) (events_in lines) (event_of e))
-      ∙ ap (λ (es : List rule.Event). slot_run (slotted (opens (setup_in lines))) es) (sym (event_push lines e))
-      ∙ ap (λ (s : rule.Setup). slot_run (slotted (opens s)) (events_in (lines ++ line.Event e ∷ []))) (sym (setup_push lines (line.Event e)))
+      ∙ ap (λ (es : List rule.Event). slot_run (slotted (opens (setup_in lines))) es) (sym (grow.events lines e))
+      ∙ ap (λ (s : rule.Setup). slot_run (slotted (opens s)) (events_in (lines ++ line.Event e ∷ []))) (sym (grow.setup lines (line.Event e)))
 
   grown_text : (lines : List Line) (e : Event) (s : Slotted) (events : ℕ) (text : List ℕ) → s ≡ slotted_in lines → events ≡ length (events_in lines)
       → text ≡ run_texts.event_text (events + 1) s.world (slot_happens s (event_of e))
@@ -176,8 +145,8 @@ module _ (calls : CallsAddUp) (runs : RunsLawfully) where
       ap (λ (l : List ℕ). events_text_of lines ++ l) (same ∙ ap (λ (n : ℕ). last n s) number ∙ ap (last (length (events_in lines) + 1)) is)
       ∙ ap (λ (l : List ℕ). l ++ last (length (events_in lines) + 1) (slotted_in lines)) (runs.text lines)
       ∙ sym (runs.text_more begin (events_in lines) (event_of e))
-      ∙ ap (λ (es : List rule.Event). slot_text 1 begin es) (sym (event_push lines e))
-      ∙ ap (λ (s : rule.Setup). slot_text 1 (slotted (opens s)) (events_in (lines ++ line.Event e ∷ []))) (sym (setup_push lines (line.Event e)))
+      ∙ ap (λ (es : List rule.Event). slot_text 1 begin es) (sym (grow.events lines e))
+      ∙ ap (λ (s : rule.Setup). slot_text 1 (slotted (opens s)) (events_in (lines ++ line.Event e ∷ []))) (sym (grow.setup lines (line.Event e)))
       ∙ sym (runs.text (lines ++ line.Event e ∷ []))
 
   -- behind one event more
@@ -188,13 +157,13 @@ module _ (calls : CallsAddUp) (runs : RunsLawfully) where
       → Progress v opened (lines ++ line.Event e ∷ []) new left later held after
   progress_more w v opened lines old new left now later held put after e text p came happened more is written =
       let count : w.events ≡ length (events_in lines) = p.events_are in
-      let at : events_at (stage_of lines) ≡ length (events_in lines) = stage_count lines p.begun in
-      let few : events_at (stage_of lines) < max_events = few_events (stage_of lines) e came.0.1 in
+      let at : events_at (stage_of lines) ≡ length (events_in lines) = grow.counted lines p.begun in
+      let few : events_at (stage_of lines) < max_events = grow.room (stage_of lines) e came.0.1 in
       let number : length lines ≡ opened + w.events = p.count in
       let size : length (lines ++ line.Event e ∷ []) ≡ length lines + 1 = length-append lines (line.Event e ∷ []) in
-      let events : length (events_in (lines ++ line.Event e ∷ [])) ≡ length (events_in lines) + 1 = ap length (event_push lines e) ∙ length-append (events_in lines) (event_of e ∷ []) in
+      let events : length (events_in (lines ++ line.Event e ∷ [])) ≡ length (events_in lines) + 1 = ap length (grow.events lines e) ∙ length-append (events_in lines) (event_of e ∷ []) in
       record {
-        begun = begun_push lines (line.Event e) p.begun came.0;
+        begun = grow.begun lines (line.Event e) p.begun came.0;
         read = read_line_more lines (line.Event e) old new left now later p.read came.1;
         written = subst (λ (l : List ℕ). Appends held after l) (grown_text lines e (with_slots w) w.events text p.state_is p.events_are is) (calls.puts_both held put after (events_text_of lines) text p.written written);
         state_is = grown_state lines e (with_slots w) (with_slots v) p.state_is happened;
@@ -356,7 +325,7 @@ module _ (calls : CallsAddUp) (runs : RunsLawfully) where
       let more = a.lines ++ line.Event e ∷ [] in
       record {
         begun = more;
-        lawful = begun_push a.lines (line.Event e) p.begun a.comes.0;
+        lawful = grow.begun a.lines (line.Event e) p.begun a.comes.0;
         ahead = new;
         read = read_line_more a.lines (line.Event e) a.old new left a.between later p.read a.comes.1;
         closing = [];
@@ -372,3 +341,27 @@ module _ (calls : CallsAddUp) (runs : RunsLawfully) where
         };
         written = calls.puts_both held mid put so_far front p.written written;
       }
+
+  -- what comes next comes behind so many events
+  pub ahead_more : (v : Held) (opened : ℕ) (lines : List Line) (e : Event) (next : NextEvent) (old new : List ℕ) (left now later held put : Option (List ℕ))
+      → Progress v opened (lines ++ line.Event e ∷ []) old left now held put → EventComes (Stage.Running v.events) next old new now later
+      → Ahead v opened next new left later held put
+  ahead_more v opened lines e next old new left now later held put p comes =
+      let at : events_at (stage_of (lines ++ line.Event e ∷ [])) ≡ v.events = grow.counted (lines ++ line.Event e ∷ []) p.begun ∙ sym p.events_are in
+      let stage : stage_of (lines ++ line.Event e ∷ []) ≡ Stage.Running (events_at (stage_of lines) + 1) = grow.stage lines (line.Event e) in
+      let same : Stage.Running v.events ≡ stage_of (lines ++ line.Event e ∷ []) = ap Stage.Running (sym at ∙ ap events_at stage) ∙ sym stage in
+      record {
+        lines = lines ++ line.Event e ∷ [];
+        old = old;
+        between = now;
+        progress = p;
+        comes = subst (λ (s : Stage). EventComes s next old new now later) same comes;
+      }
+
+  -- where an event comes next, there may be one more
+  pub few_more : (w : Held) (opened : ℕ) (new : List ℕ) (left now held put : Option (List ℕ)) (e : Event) → Ahead w opened (next_event.Event e) new left now held put → w.events < max_events
+  few_more w opened new left now held put e a =
+      let few : events_at (stage_of a.lines) < max_events = grow.room (stage_of a.lines) e a.comes.0.1 in
+      let at : events_at (stage_of a.lines) ≡ length (events_in a.lines) = grow.counted a.lines a.progress.begun in
+      let count : w.events ≡ length (events_in a.lines) = a.progress.events_are in
+      omega arith

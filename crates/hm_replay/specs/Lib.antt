@@ -1,9 +1,3 @@
-pub mod Buffers
-pub mod Fills
 pub mod Lawful
-pub mod Lines
-pub mod Nexts
-pub mod Openings
 pub mod Replays
-pub mod Stages
 pub mod Statuses

@@ -10,21 +10,22 @@ ghost use Rattle.hm_schedule.specs.Reasons.{reason_text};
 ghost use Rattle.hm_replay.specs.Statuses.{Ends, EndsShow};
 ghost use Rattle.hm_outside.specs.Faults.{Rose};
 ghost use Rattle.hm_outside.specs.Puts.{Puts};
-ghost use Rattle.hm_replay.specs.Replays.{IsWholeRun, IsBadRun, BreaksOff};
-ghost use Rattle.hm_schedule.specs.Orders.{IsBegun, IsSchedule, lines_text};
+ghost use Rattle.hm_replay.specs.Replays.{IsWholeRun, IsBadRun};
+ghost use Rattle.hm_schedule.specs.Orders.{IsBegun, IsSchedule, BreaksOff, lines_text};
 ghost use Rattle.hm_schedule.specs.declared.line.Line.{Line};
 ghost use Rattle.hm_schedule.specs.declared.line.LineReason.{LineReason};
 
 use crate::events::write_event;
 use crate::law::schedules_run_lawfully;
-use crate::lines::LineReader;
-use crate::reading::{NextEvent, next_event, read_opening};
 use crate::run_text::{write_bad, write_order};
 use crate::status::{Status, ended, status_of};
 use crate::words::is_word;
 use hm_outside::device::{NotPut, Sink, Source, put_all, put_closing};
 use hm_outside::law::calls_add_up;
+use hm_schedule::law::{bytes_break_off_once, schedules_grow_by_lines};
 use hm_schedule::line::LineReason;
+use hm_schedule::lines::LineReader;
+use hm_schedule::reading::{NextEvent, next_event, read_opening};
 use hm_show::show::show;
 use hm_world::world::World;
 use std::alloc::Global;
@@ -84,6 +85,7 @@ pub fn run<S: Source, K: Sink>(
         → (Rose (S.faults source.old) (S.faults source.new) → ⊥) → (Rose (K.faults sink.old) (K.faults sink.new) → ⊥)
         → (result ≡ Status.Done) ⊎ (result ≡ Status.NoMemory) }
 {
+    bytes_break_off_once();
     if is_word(words, "replay") {
         replay(alloc, source, sink)
     } else if is_word(words, "show") {
@@ -99,6 +101,7 @@ fn replay<S: Source, K: Sink>(alloc: Global, source: &mut S, sink: &mut K) -> St
         (record { read_before = S.faults source.old; read_after = S.faults source.new; put_before = K.faults sink.old; put_after = K.faults sink.new }) }
 {
     calls_add_up();
+    schedules_grow_by_lines();
     schedules_run_lawfully();
     let Ok(mut reader) = LineReader::open(alloc) else {
         return Status::NoMemory;

@@ -1,5 +1,5 @@
 -- How far a show has come, and how it ends from there.
-use Rattle.std.proofs.Common.{◌≡◌, ℕ, suc, ◌+◌, ◌-◌, ◌^◌, ◌<◌, ◌≤◌, min, List, [], ◌∷◌, ◌++◌, length, Option, Some, None, Result, Ok, Err, refl, sym, ap, subst, ◌∙◌, inl, inr, append_assoc, arith, lit<, lit≤}
+use Rattle.std.proofs.Common.{◌≡◌, ℕ, suc, ◌+◌, ◌<◌, ◌≤◌, List, [], ◌∷◌, ◌++◌, length, Option, Some, None, Result, Ok, Err, refl, sym, ap, subst, ◌∙◌, inl, inr, append_assoc, arith, lit<, lit≤}
 use Rattle.std.specs.Prelude.{flat_map, codes, decimal}
 use Rattle.std.specs.List.{AllByRecursion}
 use Rattle.std.specs.Io.KnownBytes.{Consumes, Keeps, Appends, IsAtEnd}
@@ -19,7 +19,6 @@ use Rattle.hm_rules.specs.RunText.{line_of, packet_lines}
 use Rattle.hm_show.specs.Verdicts.{end_of}
 use Rattle.hm_show.specs.Shows.{max_frames, HasRead, IsVerdict, closing_text, shown_of, IsShown, IsCutShow, IsPartialShow, Shows}
 use Rattle.hm_show.specs.Steps.{TakesSome, IsHalt, answer_of}
-use Rattle.hm_show.specs.declared.show.Shown.{Shown}
 use Rattle.hm_show.specs.declared.verdict.Verdict.{Verdict}
 use Rattle.hm_show.specs.declared.verdict.Verdict.TheVariants as verdict
 

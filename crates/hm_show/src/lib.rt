@@ -2,7 +2,5 @@
 #![tactic(auto)]
 
 pub mod show;
-#[cfg(test)]
-mod tests;
 pub mod text;
 pub mod verdict;

@@ -12,6 +12,8 @@ mod dirtyset;
 #[cfg(test)]
 mod feed;
 #[cfg(test)]
+mod frame;
+#[cfg(test)]
 mod links;
 #[cfg(test)]
 mod order;
@@ -20,6 +22,12 @@ mod packet;
 #[cfg(test)]
 mod reconfig;
 #[cfg(test)]
+mod replay;
+#[cfg(test)]
+mod rows;
+#[cfg(test)]
 mod shim;
+#[cfg(test)]
+mod show;
 #[cfg(test)]
 mod switch;

@@ -10,11 +10,10 @@ use Rattle.hm_schedule.specs.Reasons.{reason_text}
 use Rattle.hm_schedule.specs.declared.line.Line.{Line}
 use Rattle.hm_schedule.specs.declared.line.LineReason.TheVariants.{Word}
 use Rattle.hm_replay.specs.Replays.{full_in}
-use Rattle.hm_replay.proofs.LinePushes.{few_in, setup_is_chain}
 use Rattle.hm_replay.proofs.law.schedules_run_lawfully.Goals as goal
 
-few_events : (lines : List Line) → IsBegun lines → length (events_in lines) < 2 ^ 32
-few_events lines begun = let few : length (events_in lines) ≤ max_events = few_in lines begun in omega arith
+fits : (n : ℕ) → n ≤ max_events → n < 2 ^ 32
+fits n few = omega arith
 
 word_goes_on : All (λ (byte : ℕ). byte ≢ 10) (reason_text Word)
 word_goes_on = All-from_recursion (λ (byte : ℕ). byte ≢ 10) (reason_text Word) ((λ same. omega arith), (λ same. omega arith), (λ same. omega arith), (λ same. omega arith), tt)
@@ -22,17 +21,14 @@ word_goes_on = All-from_recursion (λ (byte : ℕ). byte ≢ 10) (reason_text Wo
 chain_forms : (setup : Setup) → setup.kind ≡ kind.Chain → CanForm setup
 chain_forms setup chain other = cc
 
-can_form : (lines : List Line) → IsBegun lines → CanForm (setup_in lines)
-can_form lines begun = chain_forms (setup_in lines) (setup_is_chain lines begun)
-
 pub returns : goal.returns
 returns c = record {
   world = λ lines. c.full_events_are_the_refusals.ensures.world (setup_in lines) (events_in lines);
   text = λ lines. c.full_events_are_the_refusals.ensures.text (setup_in lines) (events_in lines);
   one_more = c.slotted_run_goes_on.ensures.world;
   text_more = λ s es e. c.slotted_run_goes_on.ensures.text 1 s es e;
-  shown_whole = λ lines begun. c.texts_show_their_refusals.ensures.whole (setup_in lines) (events_in lines) (few_events lines begun);
-  shown_cut = λ lines begun. c.texts_show_their_refusals.ensures.cut (setup_in lines) (events_in lines) (few_events lines begun);
-  shown_bad = λ lines number begun. c.texts_show_their_refusals.ensures.bad (setup_in lines) (events_in lines) number (reason_text Word) (few_events lines begun) word_goes_on;
-  legal = λ lines begun. c.every_group_is_linearizable.ensures.legal (setup_in lines) (events_in lines) (full_in lines) (can_form lines begun);
+  shown_whole = λ lines begun. c.texts_show_their_refusals.ensures.whole (setup_in lines) (events_in lines) (fits (length (events_in lines)) (c.schedules_grow_by_lines.ensures.grow.few lines begun));
+  shown_cut = λ lines begun. c.texts_show_their_refusals.ensures.cut (setup_in lines) (events_in lines) (fits (length (events_in lines)) (c.schedules_grow_by_lines.ensures.grow.few lines begun));
+  shown_bad = λ lines number begun. c.texts_show_their_refusals.ensures.bad (setup_in lines) (events_in lines) number (reason_text Word) (fits (length (events_in lines)) (c.schedules_grow_by_lines.ensures.grow.few lines begun)) word_goes_on;
+  legal = λ lines begun. c.every_group_is_linearizable.ensures.legal (setup_in lines) (events_in lines) (full_in lines) (chain_forms (setup_in lines) (c.schedules_grow_by_lines.ensures.chain lines begun));
 }

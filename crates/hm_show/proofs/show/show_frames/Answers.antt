@@ -1,10 +1,8 @@
-use Rattle.std.proofs.Common.{◌≡◌, ◌≤◌, ◌<◌, ℕ, List, [], ◌++◌, length, take, refl, sym, ap, subst, ◌∙◌, arith}
+use Rattle.std.proofs.Common.{◌≡◌, ◌≤◌, ◌<◌, ℕ, List, [], ◌++◌, length, take, refl, ap, subst, ◌∙◌, arith}
 use Rattle.std.proofs.lemmas.List.{length-take, take_at}
 use Rattle.std.specs.Io.KnownBytes.{Appends}
 use Rattle.hm_base.specs.Lists.{IsPrefix}
-use Rattle.hm_outside.specs.Faults.{Faults, one_more}
-use Rattle.hm_show.specs.Shows.{Shows}
-use Rattle.hm_show.specs.declared.show.Shown.{Shown}
+use Rattle.hm_outside.specs.Faults.{one_more}
 use Rattle.hm_show.proofs.ShowLemmas.{showing_start, made, made_put, made_end, showing_more, partial_lines, partial_showing, partial_read, cut_show, shows_closed, shows_ended, halted}
 use Rattle.hm_show.proofs.show.show_frames.Goals as goal
 
@@ -12,14 +10,14 @@ pub returns-in_default : goal.returns-in_default
 returns-in_default g c = (record { read = refl; put = refl }, partial_showing 0 [] _ _ _ _ (showing_start c.calls_add_up.ensures _ _))
 
 pub loop-verdict-init : goal.loop-verdict-init
-loop-verdict-init g c = record { run = showing_start c.calls_add_up.ensures _ _; room = c.in-Ok.ensures; read = refl; put = refl }
+loop-verdict-init g c = record { run = rw c.new-unframer.ensures (showing_start c.calls_add_up.ensures _ _); room = c.in-Ok.ensures; read = refl; put = refl }
 
 pub returns-in-Ok-Some : goal.returns-in-Ok-Some
 returns-in-Ok-Some g c =
     let taken = rw c.in-Ok-Some.field-0-is at c.in-Ok-Some.ensures in
     let m = made _ _ _ _ _ _ _ _ _ _ c.loop-verdict.invariant.run c.clear.ensures.items taken.0 in
     rw c.answer_of.ensures (rw c.shown_of.ensures
-    (shows_closed c.calls_add_up.ensures _ _ _ _ _ _ _ _ _ _ _ _ m (halted _ m.packets _ _ _ m.counted taken.1) c.loop-verdict.invariant.read c.loop-verdict.invariant.put c.close.ensures))
+    (shows_closed c.calls_add_up.ensures _ _ _ _ _ _ _ _ _ _ _ _ m (halted _ m.packets _ _ _ m.counted taken.1) c.loop-verdict.invariant.read c.loop-verdict.invariant.put c.close-closed.ensures))
 
 pub returns-in-Err : goal.returns-in-Err
 returns-in-Err g c = (record { read = c.loop-verdict.invariant.read; put = c.loop-verdict.invariant.put }, partial_showing _ _ _ _ _ _ c.loop-verdict.invariant.run)
@@ -44,8 +42,8 @@ returns-in-Ok-eq0 g c =
     let room : c.loop-verdict.piece.len ≡ 65536 = c.loop-verdict.invariant.room in
     let some : 0 < length c.take.new.buf = omega (arith, c.take.auto.buf, c.deref_mut.ensures.len) in
     rw c.answer_of-in-Ok-eq0.ensures (rw c.shown_of-in-Ok-eq0.ensures
-    (shows_ended c.calls_add_up.ensures _ _ _ _ _ _ _ _ _ _ _ _ _ e c.held.ensures c.verdict_at_end.ensures c.clear-in-Ok-eq0.ensures.items taken.1 (c.in-Ok-eq0.ensures.bytes.1 c.in-Ok-eq0.field-0-test some)
-    (c.in-Ok-eq0.ensures.counted ∙ c.loop-verdict.invariant.read) (c.in-Ok-put_all.ensures.counted ∙ c.loop-verdict.invariant.put) c.close-in-Ok-eq0.ensures))
+    (shows_ended c.calls_add_up.ensures _ _ _ _ _ _ _ _ _ _ _ _ _ e c.held.ensures c.verdict_at_end-verdict.ensures c.clear-in-Ok-eq0.ensures.items taken.1 (c.in-Ok-eq0.ensures.bytes.1 c.in-Ok-eq0.field-0-test some)
+    (c.in-Ok-eq0.ensures.counted ∙ c.loop-verdict.invariant.read) (c.in-Ok-put_all.ensures.counted ∙ c.loop-verdict.invariant.put) c.close-closed-in-Ok-eq0.ensures))
 
 pub loop-verdict-preserved : goal.loop-verdict-preserved
 loop-verdict-preserved g c =

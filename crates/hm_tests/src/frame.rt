@@ -1,0 +1,91 @@
+use hm_base::node::Node;
+use hm_codec::buf::Buf;
+use hm_frame::frame::{Unframer, frame};
+use hm_packet::body::{Body, Read};
+use hm_packet::packet::Packet;
+use hm_wire::malformed::{Malformed, Reason};
+use std::alloc::Global;
+use std::test::Fail;
+
+/// The frame of `c8 s1 read 1 5`.
+const READ_FRAME: [u8; 26] = [
+    0x00, 0x18, 0x01, 0x01, 0x01, 0x00, 0x00, 0x00, 0x08, 0x02, 0x00, 0x00, 0x00, 0x01, 0x00, 0x00,
+    0x00, 0x00, 0x00, 0x00, 0x00, 0x01, 0x00, 0x00, 0x00, 0x05,
+];
+
+fn read_packet() -> Packet {
+    Packet {
+        src: Node::Client(8),
+        dst: Node::Switch(1),
+        body: Body::Read(Read {
+            request: 1,
+            object: 5,
+        }),
+    }
+}
+
+/// The fault that is answered of bytes fed at once, and again after a further byte.
+fn faults_of(alloc: Global, bytes: &[u8]) -> Result<[Option<Malformed>; 2], Fail> {
+    let mut unframer = Unframer::new(alloc);
+    unframer.feed(bytes)?;
+    let first = unframer.next().err();
+    unframer.feed(&[0])?;
+    Ok([first, unframer.next().err()])
+}
+
+#[test]
+fn frames_a_packet(rt: HostRuntime) -> Result<(), Fail> {
+    let mut buf = Buf::new();
+    frame(&read_packet(), &mut buf);
+    assert_eq!(rt; buf.as_slice(), READ_FRAME.as_slice());
+    Ok(())
+}
+
+#[test]
+fn gives_a_packet_at_its_last_byte(rt: HostRuntime) -> Result<(), Fail> {
+    let mut unframer = Unframer::new(rt.alloc());
+    for (i, byte) in READ_FRAME.iter().enumerate() {
+        assert!(rt; matches!(unframer.next(), Ok(None)));
+        assert_eq!(rt; unframer.held(), i);
+        unframer.feed(&[*byte])?;
+    }
+    let Ok(Some(packet)) = unframer.next() else {
+        return Err(Fail::new("no packet"));
+    };
+    let mut buf = Buf::new();
+    frame(&packet, &mut buf);
+    assert_eq!(rt; buf.as_slice(), READ_FRAME.as_slice());
+    assert_eq!(rt; unframer.held(), 0);
+    assert!(rt; matches!(unframer.next(), Ok(None)));
+    Ok(())
+}
+
+#[test]
+fn counts_faults_from_the_first_byte(rt: HostRuntime) -> Result<(), Fail> {
+    let mut kind = READ_FRAME;
+    kind[3] = 0;
+    let fault = Malformed {
+        at: 3,
+        reason: Reason::Kind,
+    };
+    assert_eq!(rt; faults_of(rt.alloc(), &kind)?, [Some(fault), Some(fault)]);
+
+    let mut longer = [0; 27];
+    longer[..26].copy_from_slice(&READ_FRAME);
+    longer[1] = 0x19;
+    let fault = Malformed {
+        at: 26,
+        reason: Reason::Rest,
+    };
+    assert_eq!(rt; faults_of(rt.alloc(), &longer)?, [Some(fault), Some(fault)]);
+
+    let fault = Malformed {
+        at: 0,
+        reason: Reason::Length,
+    };
+    assert_eq!(rt;
+        faults_of(rt.alloc(), &[0x07, 0xff])?,
+        [Some(fault), Some(fault)]
+    );
+    Ok(())
+}

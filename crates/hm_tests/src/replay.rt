@@ -1,0 +1,176 @@
+use crate::rows::{ROWS, WRITE_THEN_READ};
+use hm_outside::adapters::{ReaderSource, WriterSink};
+use hm_outside::device::{Failed, Sink};
+use hm_outside::memory::{MemorySink, MemorySource};
+use hm_outside::sure::{SureSink, SureSource};
+use hm_replay::replay::run;
+use hm_replay::status::Status;
+use std::alloc::{AllocError, Global};
+use std::io;
+use std::io::Read;
+use std::test::Fail;
+
+/// The text of the first event of [`WRITE_THEN_READ`].
+const FIRST_EVENT: &[u8] = b"event 1 ok
+invoke 7.1
+packet 1 c7 s1 write 1 5 61
+";
+
+/// The program's words.
+fn words(alloc: Global, texts: &[&str]) -> Result<Vec<String>, AllocError> {
+    let mut words = Vec::new(alloc);
+    for text in texts {
+        words.push(String::from_str(alloc, text)?)?;
+    }
+    Ok(words)
+}
+
+/// A source in memory of which the calls with these numbers fail.
+fn source(alloc: Global, bytes: &[u8], fails: &[u64]) -> Result<MemorySource, AllocError> {
+    Ok(MemorySource::new(bytes.to_vec(alloc)?, fails.to_vec(alloc)?))
+}
+
+/// A sink of which the calls with these numbers fail.
+fn sink(alloc: Global, fails: &[u64]) -> Result<MemorySink, Fail> {
+    let sink = MemorySink::open(alloc, 4096, fails.to_vec(alloc)?);
+    Ok(sink?)
+}
+
+/// A sink that sees whether each piece begins an event's text or the ending, and holds no other.
+#[derive(Drop)]
+struct Pieces {
+    sink: MemorySink,
+    are_whole: bool,
+}
+
+/// Whether a piece begins an event's text or the ending, and no other begins in it.
+fn is_whole(piece: &[u8]) -> bool {
+    let begins =
+        piece.starts_with(b"event ") || piece.starts_with(b"order ") || piece.starts_with(b"bad ");
+    begins
+        && !piece
+            .windows(7)
+            .any(|part| part == b"\nevent ".as_slice() || part == b"\norder ".as_slice())
+        && !piece.windows(5).any(|part| part == b"\nbad ".as_slice())
+}
+
+impl Sink for Pieces {
+    ghost use Rattle.std.specs.Prelude.{Some};
+
+    ghost held = { λ s. Some s.sink.held };
+
+    ghost faults = { λ s. s.sink.faults };
+
+    fn put(&mut self, piece: &[u8]) -> Result<usize, Failed> {
+        self.are_whole = self.are_whole && is_whole(piece);
+        self.sink.put(piece)
+    }
+}
+
+#[test]
+fn replays_each_row_piece_by_piece(rt: HostRuntime) -> Result<(), Fail> {
+    let words = words(rt.alloc(), &["replay"])?;
+    for row in &ROWS {
+        let mut source = source(rt.alloc(), row.schedule, &[])?;
+        let mut pieces = Pieces {
+            sink: sink(rt.alloc(), &[])?,
+            are_whole: true,
+        };
+        let status = run(rt.alloc(), &words, &mut source, &mut pieces);
+        assert_eq!(rt; status, row.status);
+        assert_eq!(rt; pieces.sink.as_slice(), row.text);
+        assert!(rt; pieces.are_whole);
+    }
+    Ok(())
+}
+
+#[test]
+fn stops_where_a_device_fails(rt: HostRuntime) -> Result<(), Fail> {
+    let words = words(rt.alloc(), &["replay"])?;
+    let schedule = WRITE_THEN_READ.schedule;
+    let mut text = sink(rt.alloc(), &[2])?;
+    let status = run(rt.alloc(), &words, &mut source(rt.alloc(), schedule, &[])?, &mut text);
+    assert_eq!(rt; status.code(), 5);
+    assert_eq!(rt; text.as_slice(), FIRST_EVENT);
+
+    let mut text = sink(rt.alloc(), &[])?;
+    let status = run(rt.alloc(), &words, &mut source(rt.alloc(), schedule, &[1])?, &mut text);
+    assert_eq!(rt; status.code(), 4);
+    assert_eq!(rt; text.as_slice(), b"".as_slice());
+    Ok(())
+}
+
+#[test]
+fn takes_one_word(rt: HostRuntime) -> Result<(), Fail> {
+    let words = words(rt.alloc(), &["replay", "now"])?;
+    let mut source = source(rt.alloc(), WRITE_THEN_READ.schedule, &[])?;
+    let mut text = sink(rt.alloc(), &[])?;
+    assert_eq!(rt; run(rt.alloc(), &words, &mut source, &mut text).code(), 2);
+    assert_eq!(rt; text.as_slice(), b"".as_slice());
+    Ok(())
+}
+
+/// A reader that gives one byte at a time.
+struct Trickle<'a> {
+    bytes: &'a [u8],
+}
+
+impl Drop for Trickle<'_> {
+    fn drop(self) {
+        let Trickle { bytes: _ } = self;
+    }
+}
+
+impl Read for Trickle<'_> {
+    fn read(&mut self, buf: &mut [u8]) -> io::Result<usize> {
+        if buf.is_empty() {
+            return Ok(0);
+        }
+        match self.bytes {
+            [first, rest @ ..] => {
+                buf[0] = *first;
+                self.bytes = rest;
+                Ok(1)
+            }
+            [] => Ok(0),
+        }
+    }
+}
+
+#[test]
+fn runs_over_each_device(rt: HostRuntime) -> Result<(), Fail> {
+    let words = words(rt.alloc(), &["replay"])?;
+    let bytes = WRITE_THEN_READ.schedule;
+    let mut text = WriterSink::new(Vec::new(rt.alloc()));
+    let mut source = ReaderSource::new(Trickle { bytes });
+    assert_eq!(rt; run(rt.alloc(), &words, &mut source, &mut text), Status::Done);
+    assert_eq!(rt; text.into_inner().as_slice(), WRITE_THEN_READ.text);
+
+    let mut source = SureSource::new(bytes.to_vec(rt.alloc())?);
+    assert_eq!(rt; run(rt.alloc(), &words, &mut source, &mut SureSink::new()), Status::Done);
+    Ok(())
+}
+
+/// The frame of `c8 s1 read 1 5`.
+const READ_FRAME: [u8; 26] = [
+    0x00, 0x18, 0x01, 0x01, 0x01, 0x00, 0x00, 0x00, 0x08, 0x02, 0x00, 0x00, 0x00, 0x01, 0x00, 0x00,
+    0x00, 0x00, 0x00, 0x00, 0x00, 0x01, 0x00, 0x00, 0x00, 0x05,
+];
+
+#[test]
+fn shows_frames(rt: HostRuntime) -> Result<(), Fail> {
+    let words = words(rt.alloc(), &["show"])?;
+    let mut whole = source(rt.alloc(), &READ_FRAME, &[])?;
+    let mut text = sink(rt.alloc(), &[])?;
+    assert_eq!(rt; run(rt.alloc(), &words, &mut whole, &mut text).code(), 0);
+    assert_eq!(rt;
+        text.as_slice(),
+        b"packet 1 c8 s1 read 1 5\nend 1\n".as_slice()
+    );
+
+    let mut part = source(rt.alloc(), &READ_FRAME[..10], &[])?;
+    let mut text = sink(rt.alloc(), &[])?;
+    assert_eq!(rt; run(rt.alloc(), &words, &mut part, &mut text).code(), 3);
+    assert_eq!(rt; text.as_slice(), b"bad 1 10 Short\n".as_slice());
+    Ok(())
+}

@@ -1,0 +1,110 @@
+use hm_outside::device::{Failed, Source};
+use hm_outside::memory::{MemorySink, MemorySource};
+use hm_outside::sure::{SureSink, SureSource};
+use hm_show::show::{MAX_FRAMES, Shown, show};
+use hm_wire::malformed::{Malformed, Reason};
+use std::alloc::Global;
+use std::test::Fail;
+
+/// The frame of `c8 s1 read 1 5`.
+const READ_FRAME: [u8; 26] = [
+    0x00, 0x18, 0x01, 0x01, 0x01, 0x00, 0x00, 0x00, 0x08, 0x02, 0x00, 0x00, 0x00, 0x01, 0x00, 0x00,
+    0x00, 0x00, 0x00, 0x00, 0x00, 0x01, 0x00, 0x00, 0x00, 0x05,
+];
+
+/// What is shown of these bytes: the answer and the text, over a source and a sink whose calls with these numbers fail.
+fn shown(
+    alloc: Global,
+    bytes: &[u8],
+    read_fails: &[u64],
+    put_fails: &[u64],
+) -> Result<(Shown, MemorySink), Fail> {
+    let mut source = MemorySource::new(bytes.to_vec(alloc)?, read_fails.to_vec(alloc)?);
+    let mut sink = MemorySink::open(alloc, 4096, put_fails.to_vec(alloc)?)?;
+    let shown = show(alloc, &mut source, &mut sink);
+    Ok((shown, sink))
+}
+
+#[test]
+fn shows_a_frame(rt: HostRuntime) -> Result<(), Fail> {
+    let (shown, sink) = shown(rt.alloc(), &READ_FRAME, &[], &[])?;
+    assert_eq!(rt; shown, Shown::Done);
+    assert_eq!(rt;
+        sink.as_slice(),
+        b"packet 1 c8 s1 read 1 5\nend 1\n".as_slice()
+    );
+    Ok(())
+}
+
+#[test]
+fn ends_inside_a_frame(rt: HostRuntime) -> Result<(), Fail> {
+    let (shown, sink) = shown(rt.alloc(), &READ_FRAME[..10], &[], &[])?;
+    let fault = Malformed {
+        at: 10,
+        reason: Reason::Short,
+    };
+    assert_eq!(rt; shown, Shown::BadFrame { number: 1, fault });
+    assert_eq!(rt; sink.as_slice(), b"bad 1 10 Short\n".as_slice());
+    Ok(())
+}
+
+#[test]
+fn keeps_what_was_shown_before_a_fault(rt: HostRuntime) -> Result<(), Fail> {
+    let (answer, sink) = shown(rt.alloc(), &READ_FRAME, &[2], &[])?;
+    assert_eq!(rt; answer, Shown::ReadFault);
+    assert_eq!(rt; sink.as_slice(), b"packet 1 c8 s1 read 1 5\n".as_slice());
+    let (answer, sink) = shown(rt.alloc(), &READ_FRAME, &[], &[1])?;
+    assert_eq!(rt; answer, Shown::WriteFault);
+    assert_eq!(rt; sink.as_slice(), b"".as_slice());
+    Ok(())
+}
+
+#[test]
+fn never_fails_over_sure_ends(rt: HostRuntime) -> Result<(), Fail> {
+    let mut source = SureSource::new(READ_FRAME.to_vec(rt.alloc())?);
+    let shown = show(rt.alloc(), &mut source, &mut SureSink::new());
+    assert_eq!(rt; shown, Shown::Done);
+    Ok(())
+}
+
+/// A source that gives the frame so many times, in pieces of whole frames.
+struct Repeated {
+    times: usize,
+}
+
+impl Drop for Repeated {
+    fn drop(self) {
+        let Repeated { times: _ } = self;
+    }
+}
+
+impl Source for Repeated {
+    ghost use Rattle.std.specs.Prelude.{None};
+
+    ghost left = { λ _. None };
+
+    ghost faults = { λ _. 0 };
+
+    fn take(&mut self, buf: &mut [u8]) -> Result<usize, Failed> {
+        let frames = self.times.min(buf.len() / READ_FRAME.len());
+        for frame in 0..frames {
+            let start = frame * READ_FRAME.len();
+            buf[start..start + READ_FRAME.len()].copy_from_slice(&READ_FRAME);
+        }
+        self.times -= frames;
+        Ok(frames * READ_FRAME.len())
+    }
+}
+
+#[test]
+fn stops_behind_the_last_frame(rt: HostRuntime) -> Result<(), Fail> {
+    let mut source = Repeated {
+        times: MAX_FRAMES as usize + 1,
+    };
+    let mut sink = MemorySink::open(rt.alloc(), 40_000_000, Vec::new(rt.alloc()))?;
+    let shown = show(rt.alloc(), &mut source, &mut sink);
+    let number = MAX_FRAMES + 1;
+    assert_eq!(rt; shown, Shown::TooLong { number });
+    assert!(rt; sink.as_slice().ends_with(b"\ntoolong 1048577\n"));
+    Ok(())
+}
