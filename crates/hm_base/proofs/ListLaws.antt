@@ -319,6 +319,7 @@ first_later {A} p {xs} {ys} f l =
     let new : (x : A) × (slice_get ys (position_or_len p ys) ≡ Some x) × (p x ≡ true) = first_at p ys (omega arith) in
     let ge : position_or_len p xs ≤ position_or_len p ys = first_le p xs (position_or_len p ys) new.0 (prefix_at_back (position_or_len p ys) new.0 f (omega arith) new.1) new.2 in
     omega arith
+
 -- ---- words in a row
 
 pub spaced_append : (a b : List (List ℕ)) → spaced (a ++ b) ≡ spaced a ++ spaced b

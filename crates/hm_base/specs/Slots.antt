@@ -33,6 +33,19 @@ abbrev pub is_of : ℕ → Option Kept → Bool
 is_of object None = false
 is_of object (Some kept) = kept.object == object
 
+-- what a slot holds where that is live
+abbrev pub live_part : ℕ → Option Kept → Option Kept
+live_part point None = None
+live_part point (Some kept) = if nat_lt point kept.number then Some kept else None
+
+-- pairs at or below the point are no slots
+abbrev pub live_slots : ℕ → Slots → Slots
+live_slots point slots = record slots { kept = λ stage at. live_part point (slots.kept stage at) }
+
+-- the slots once the point has gone from one number to another
+abbrev pub slots_raised : ℕ → ℕ → Slots → Slots
+slots_raised before after slots = if nat_lt before after then live_slots after slots else slots
+
 -- the object's slot in a stage, whatever it holds
 abbrev pub slot_of : Slots → ℕ → ℕ → Option Kept
 slot_of slots object stage = slots.kept stage (place slots.bits stage object)

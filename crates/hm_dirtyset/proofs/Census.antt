@@ -8,7 +8,7 @@ use Rattle.std.proofs.lemmas.Nat.{pow_pos, div-add-mod', div_below}
 use Rattle.std.proofs.lemmas.Option.{none-some, same_Some, slice_get_within}
 use Rattle.hm_base.specs.Slots.{Kept, place, slot_of, has_live, live_stage}
 use Rattle.hm_dirtyset.specs.declared.slot.Slot.{Slot}
-use Rattle.hm_dirtyset.specs.Table.{slot_index, kept_of, kept_in, slots_in, number_in, number_of, slots_of, Table, AreDistinct, CountsLive}
+use Rattle.hm_dirtyset.specs.Table.{slot_index, kept_of, kept_in, slots_in, number_in, number_of, held_slots, Table, AreDistinct, CountsLive}
 use Rattle.hm_dirtyset.specs.Fields.{IsSingle, IsPlaced}
 use Rattle.hm_dirtyset.proofs.Stages.{IsFirst, first_found}
 use Rattle.hm_dirtyset.proofs.Looks.{kept_here, kept_live}
@@ -173,7 +173,7 @@ live_somewhere stages bits point object held some = cases (live_stage (slots_in 
           };
         }
 
-pub census : (table : Table) → length table.held ≡ table.stages * 2 ^ table.bits → IsPlaced (slots_of table) → IsSingle (slots_of table) table.point → CountsLive table (count_by (λ (slot : Slot). nat_lt table.point slot.number) table.held)
+pub census : (table : Table) → length table.held ≡ table.stages * 2 ^ table.bits → IsPlaced (held_slots table) → IsSingle (held_slots table) table.point → CountsLive table (count_by (λ (slot : Slot). nat_lt table.point slot.number) table.held)
 census table len placed single = record {
   objects = objects_in table.point table.held;
   many = length-objects_in table.point table.held;
@@ -182,8 +182,8 @@ census table len placed single = record {
     | inl in_list ↦
         let there : IsSomewhere table.point o table.held = objects_from table.point o table.held in_list in
         let own : IsOwn table.stages table.bits table.point o there.at table.held = own_slot table.stages table.bits table.point o there.at table.held len placed there.here in
-        in_list ∙ sym (live_number_some (slots_of table) table.point o own.stage own.within own.live)
-    | inr absent ↦ elim (cases_Bool (is_some (number_of (slots_of table) table.point o))) [
+        in_list ∙ sym (live_number_some (held_slots table) table.point o own.stage own.within own.live)
+    | inr absent ↦ elim (cases_Bool (is_some (number_of (held_slots table) table.point o))) [
       | inl some ↦
           let there : IsSomewhere table.point o table.held = live_somewhere table.stages table.bits table.point o table.held some in
           absurd (both_ways (list_any (λ other. other == o) (objects_in table.point table.held)) absent (objects_have table.point o there.at table.held there.here))

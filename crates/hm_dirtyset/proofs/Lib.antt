@@ -7,3 +7,4 @@ pub mod Lives
 pub mod Writes
 mod Puts
 mod Census
+mod LiveSlots

@@ -5,7 +5,7 @@ use Rattle.std.specs.List.{AllByRecursion}
 use Rattle.std.proofs.lemmas.Bool.{cases_Bool, cases_eq, false≢true, both_ways, and_parts, and_from, and_left, and_right, eqb-true, eq-eqb, ne_eqb, ltb-true, lt-ltb, cond-true, cond-false, not-true, not-false, false_from_ne_true}
 use Rattle.std.proofs.lemmas.Option.{none-some, same_Some}
 use Rattle.hm_base.specs.Slots.{Kept, Slots, place, is_live, is_of, slot_of, is_taken, has_live, live_stage, free_stage, or_else, target, put_in}
-use Rattle.hm_dirtyset.specs.Table.{Table, slots_of, number_in, number_of, number_above, AreOthers, IsCrowd}
+use Rattle.hm_dirtyset.specs.Table.{Table, held_slots, number_in, number_of, number_above, AreOthers, IsCrowd}
 use Rattle.hm_dirtyset.specs.Fields.{IsSingle, IsPlaced}
 use Rattle.hm_dirtyset.proofs.Stages.{IsFirst, first_found, first_from, none_found, none_from, first-same}
 
@@ -300,14 +300,15 @@ intruders_many : (slots : Slots) (object from n : ℕ) → length (in_own_slots 
 intruders_many slots object from zero = refl
 intruders_many slots object from (suc n) = omega (arith, intruders_many slots object (from + 1) n)
 
-pub crowd : (table : Table) (object : ℕ) → IsSingle (slots_of table) table.point → IsPlaced (slots_of table) → live_stage (slots_of table) table.point object ≡ None → free_stage (slots_of table) table.point object ≡ None → IsCrowd table object
+pub crowd : (table : Table) (object : ℕ) → IsSingle (held_slots table) table.point → IsPlaced (held_slots table) → live_stage (held_slots table) table.point object ≡ None → free_stage (held_slots table) table.point object ≡ None → IsCrowd table object
 crowd table object single placed none taken =
-    let all : IsBarred (slots_of table) table.point object = barred (slots_of table) table.point object none taken in
+    let all : IsBarred (held_slots table) table.point object = barred (held_slots table) table.point object none taken in
     record {
-      objects = in_own_slots (slots_of table) object 0 table.stages;
-      many = intruders_many (slots_of table) object 0 table.stages;
-      others = intruders_others (slots_of table) table.point object 0 table.stages single placed all (omega arith);
-      live = intruders_live (slots_of table) table.point object 0 table.stages placed all (omega arith);
+      clean = ap (λ (x : Option ℕ). number_in (held_slots table) object x) none;
+      objects = in_own_slots (held_slots table) object 0 table.stages;
+      many = intruders_many (held_slots table) object 0 table.stages;
+      others = intruders_others (held_slots table) table.point object 0 table.stages single placed all (omega arith);
+      live = intruders_live (held_slots table) table.point object 0 table.stages placed all (omega arith);
     }
 
 -- where the write goes, from either way of finding it

@@ -1,11 +1,12 @@
 -- A dirty set's fields after a write.
 use Rattle.std.proofs.Common.{◌≡◌, ℕ, ◌*◌, ◌^◌, ◌<◌, ◌≤◌, List, set, Option, Some, sym, ap, ◌∙◌, subst, arith}
-use Rattle.std.specs.Prelude.{◌==◌, if◌then◌else◌}
-use Rattle.hm_base.specs.Slots.{Slots, place, target, put, put_in}
+use Rattle.std.specs.Prelude.{◌==◌, if◌then◌else◌, is_none}
+use Rattle.hm_base.specs.Slots.{Slots, place, target, is_full, put, put_in}
 use Rattle.hm_dirtyset.specs.declared.slot.Slot.{Slot}
 use Rattle.hm_dirtyset.specs.declared.dirty_set.DirtySet.TheInside.{Inside}
-use Rattle.hm_dirtyset.specs.Table.{slot_index, slots_in, number_of}
-use Rattle.hm_dirtyset.specs.Fields.{IsSingle, IsPlaced, IsSound}
+use Rattle.hm_dirtyset.specs.Table.{Table, slot_index, slots_in, slots_of, number_of}
+use Rattle.hm_dirtyset.specs.Fields.{table_of, IsSingle, IsPlaced, IsSound}
+use Rattle.hm_dirtyset.proofs.LiveSlots.{target_live}
 use Rattle.hm_dirtyset.proofs.Shapes.{index_within}
 use Rattle.hm_dirtyset.proofs.Lives.{IsTarget, target_is, put_at, number_put, single_put, placed_put}
 use Rattle.hm_dirtyset.proofs.Writes.{written}
@@ -18,6 +19,10 @@ pub record IsChosen (s : Inside) (object stage at : ℕ) : Type 0 where
   pub found : target (slots_before s) s.point object ≡ Some stage
   pub slot : at ≡ slot_index s.bits stage (place s.bits stage object)
   pub placed : place s.bits stage object < 2 ^ s.bits
+
+-- the live slots are full where no stage is found
+pub full_is : (s : Inside) (now : Table) (object : ℕ) (stage : Option ℕ) → table_of s ≡ now → target (slots_before s) s.point object ≡ stage → is_full (slots_of now) now.point object ≡ is_none stage
+full_is s now object stage view is = sym (ap (λ (t : Table). is_full (slots_of t) t.point object) view) ∙ ap (λ (t : Option ℕ). is_none t) (target_live (slots_before s) s.point object ∙ is)
 
 pub chosen_target : (s : Inside) (object stage : ℕ) → IsSound s → target (slots_before s) s.point object ≡ Some stage → IsTarget (slots_before s) s.point object stage
 chosen_target s object stage sound found = target_is (slots_before s) s.point object stage sound.single found

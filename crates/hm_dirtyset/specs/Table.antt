@@ -1,7 +1,7 @@
 -- What contracts see of a dirty set.
 use Rattle.std.specs.Prelude.{◌≡◌, ◌≢◌, ℕ, ◌+◌, ◌*◌, ◌^◌, ◌==◌, ◌&&◌, not, nat_lt, nat_le, true, if◌then◌else◌, List, [], ◌∷◌, length, slice_get, Option, Some, None, option_map, is_some}
 use Rattle.std.specs.List.{AllByRecursion, list_any}
-use Rattle.hm_base.specs.Slots.{Kept, Slots, slot_of, live_stage}
+use Rattle.hm_base.specs.Slots.{Kept, Slots, live_slots, slot_of, live_stage}
 use Rattle.hm_dirtyset.specs.declared.slot.Slot.{Slot}
 use Rattle.hm_dirtyset.specs.declared.dirty_set.OpenFault.{OpenFault}
 use Rattle.hm_dirtyset.specs.declared.dirty_set.OpenFault.TheVariants as fault
@@ -30,8 +30,12 @@ kept_in stages bits held stage at =
 abbrev pub slots_in : ℕ → ℕ → List Slot → Slots
 slots_in stages bits held = record { stages = stages; bits = bits; kept = kept_in stages bits held }
 
+abbrev pub held_slots : Table → Slots
+held_slots table = slots_in table.stages table.bits table.held
+
+-- the slots of the table: what is held at or below the point is none
 abbrev pub slots_of : Table → Slots
-slots_of table = slots_in table.stages table.bits table.held
+slots_of table = live_slots table.point (held_slots table)
 
 -- the number in the object's slot of a stage
 abbrev pub number_in : Slots → ℕ → Option ℕ → Option ℕ
@@ -43,7 +47,7 @@ abbrev pub number_of : Slots → ℕ → ℕ → Option ℕ
 number_of slots point object = number_in slots object (live_stage slots point object)
 
 abbrev pub live_number : Table → ℕ → Option ℕ
-live_number table object = number_of (slots_of table) table.point object
+live_number table object = number_of (held_slots table) table.point object
 
 -- a number, where it is above the point
 abbrev pub number_above : ℕ → Option ℕ → Option ℕ
@@ -55,8 +59,9 @@ abbrev pub AreOthers : ℕ → List ℕ → Type 0
 AreOthers object [] = Unit {0}
 AreOthers object (o ∷ os) = (o ≢ object) × AllByRecursion (λ other. o ≢ other) os × AreOthers object os
 
--- as many other objects as there are stages have live numbers
+-- the object has no live number, and as many others as there are stages have one
 pub record IsCrowd (table : Table) (object : ℕ) : Type 0 where
+  pub clean : live_number table object ≡ None
   pub objects : List ℕ
   pub many : length objects ≡ table.stages
   pub others : AreOthers object objects

@@ -154,7 +154,7 @@ impl DirtySet {
     pub fn clean_to<L: StepLedger>(&mut self, point: u64, _steps: &mut Steps<L>)
         requires { self.old.point ≤ point }
         ensures numbers { (o : ℕ) → live_number self.new o ≡ number_above point (live_number self.old o) }
-        ensures slots { slots_of self.new ≡ slots_of self.old }
+        ensures slots { slots_of self.new ≡ rule.slots_raised self.old.point point (slots_of self.old) }
         ensures stages { self.new.stages ≡ self.old.stages }
         ensures point { self.new.point ≡ point }
         ensures greatest { self.new.greatest ≡ self.old.greatest }

@@ -1,4 +1,3 @@
-pub mod Bounds
 pub mod Seen
 pub mod NetFields
 pub mod ClientsAt

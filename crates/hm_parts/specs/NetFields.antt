@@ -1,6 +1,6 @@
 -- What contracts see of a net, and what holds of its fields.
 use Rattle.std.specs.Prelude.{◌≤◌, length, vec_capacity}
-use Rattle.hm_parts.specs.Bounds.{max_packets}
+use Rattle.hm_schedule.specs.Limits.{max_packets}
 use Rattle.hm_parts.specs.Seen.{Posted}
 use Rattle.hm_parts.specs.declared.net.Net.TheInside.{Inside}
 

@@ -2,7 +2,7 @@ ghost use Rattle.std.specs.Prelude.{◌≡◌, ◌<◌, ◌≤◌, ◌+◌, ◌+
 ghost use Rattle.std.specs.Option.{option_copied};
 ghost use Rattle.hm_packet.specs.Messages.{Message};
 ghost use Rattle.hm_packet.specs.Steps.{max_outs};
-ghost use Rattle.hm_parts.specs.Bounds.{max_packets};
+ghost use Rattle.hm_schedule.specs.Limits.{max_packets};
 
 use hm_base::memory::NoMemory;
 use hm_packet::outs::{MAX_OUTS, Outs};
@@ -10,11 +10,8 @@ use hm_packet::packet::Packet;
 use std::alloc::Global;
 use std::marker::Model;
 
-/// How many packets a net takes.
-pub const MAX_PACKETS: u32 = 393_216;
-
-/// Every packet ever sent, and how many of them the cursor has passed. Contracts see the packets, the cursor, and how many packets
-/// there may be before room is made again.
+/// Every packet ever sent, and how many of them the cursor has passed. Contracts see the packets, the cursor, and how many
+/// packets there may be before room is made again.
 #[derive(Drop)]
 pub struct Net {
     packets: Vec<Packet>,

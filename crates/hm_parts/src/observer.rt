@@ -77,8 +77,8 @@ impl Observer {
         push(&mut self.history, mark);
     }
 
-    /// The declared list grows to the log's first `to` entries where those are more, and each write that is new in it gives a mark
-    /// Commit.
+    /// The declared list grows to the log's first `to` entries where those are more, and each write that is new in it gives a
+    /// mark Commit.
     pub fn declare(&mut self, log: &Ledger, to: u32)
         requires front { length self.old.declared < to → take (length self.old.declared) log.now.entries ≡ self.old.declared }
         requires few { length log.now.entries ≤ self.old.cap }

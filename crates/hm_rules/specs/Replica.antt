@@ -27,15 +27,17 @@ pub record Replica : Type 0 where
   pub known : ℕ
   -- the switch whose writes and stamped reads are taken
   pub accepted : ℕ
-  -- what each replica acknowledged in this view, by its number
+  -- By replica number: what each acknowledged in this view. It counts where pages are sent: at a chain's member for the next one, at
+  -- a primary whose view has begun for each other.
   pub acked : List ℕ
   pub status : Status
   -- the last view in which the status was Normal
   pub normal : ℕ
-  -- by replica number: who was heard to enter the view, and who voted in it
+  -- By replica number: who was heard to enter the view, which counts while the status is Change, and who voted in it, which counts
+  -- until the view has begun.
   pub heard : List Bool
   pub votes : List (Option Vote)
-  -- whose log is pulled
+  -- whose log is pulled, while the status is Pulling
   pub choice : Option ℕ
 
 -- how many replicas there can be

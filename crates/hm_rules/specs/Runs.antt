@@ -1,7 +1,7 @@
 -- The run of a schedule, and which writes of it find the dirty table full. The run's only free choice is at which events a switch
 -- refuses a write.
 use Rattle.std.specs.Prelude.{ℕ, ◌+◌, ◌-◌, Bool, true, false, if◌then◌else◌, List, [], ◌∷◌, length, drop, slice_get, Option, Some, None}
-use Rattle.hm_base.specs.Slots.{Slots, no_slots, is_full, put}
+use Rattle.hm_base.specs.Slots.{Slots, no_slots, slots_raised, is_full, put}
 use Rattle.hm_packet.specs.declared.body.Body.{Body}
 use Rattle.hm_packet.specs.declared.body.Body.TheVariants as body
 use Rattle.hm_packet.specs.declared.outcome.Outcome.{Outcome}
@@ -68,13 +68,14 @@ abbrev pub put_all : Slots → ℕ → ℕ → List ℕ → Slots
 put_all t point number [] = t
 put_all t point number (object ∷ objects) = put_all (put t point object number) point (number + 1) objects
 
--- each write that a switch has numbered since goes into its slots; a switch that was started since has none
+-- Each write that a switch has numbered since goes into its slots, and what is at or below its point then is none. A switch that
+-- was started since has no slots.
 abbrev pub slots_after : Setup → List Slots → List AbstractSwitch → List AbstractSwitch → List Slots
 slots_after setup ts olds [] = []
 slots_after setup [] olds (new ∷ news) = no_slots setup.stages setup.bits ∷ slots_after setup [] olds news
 slots_after setup (t ∷ ts) [] (new ∷ news) = no_slots setup.stages setup.bits ∷ slots_after setup [] [] news
 slots_after setup (t ∷ ts) (old ∷ olds) (new ∷ news) =
-    put_all t old.point (length old.numbered + 1) (drop (length old.numbered) new.numbered) ∷ slots_after setup ts olds news
+    slots_raised old.point new.point (put_all t old.point (length old.numbered + 1) (drop (length old.numbered) new.numbered)) ∷ slots_after setup ts olds news
 
 abbrev pub slotted_after : Slotted → World → Slotted
 slotted_after s w = record { world = w; slots = slots_after w.setup s.slots s.world.switches w.switches }

@@ -1,7 +1,8 @@
 -- How a group of Viewstamped Replication changes its view (Liskov and Cowling, "Viewstamped Replication Revisited"): after f others
 -- were heard to enter a view a replica votes, and with f + 1 votes, its own among them, the view's primary takes the log with the
 -- greatest last normal view and, among those, the greatest length. A vote carries no log: the primary pulls the chosen one.
--- These rules end where the view begins; its commits, pages and route follow with those of the protocol.
+-- These rules end where the view begins; its commits, pages and route follow with those of the protocol. None of them reads what was
+-- acknowledged, and it is cleared where the view begins and stays before.
 use Rattle.std.specs.Prelude.{ℕ, ◌+◌, Bool, not, ◌&&◌, ◌||◌, ◌==◌, nat_lt, nat_le, if◌then◌else◌, List, [], ◌∷◌, ◌++◌, length, map, Option, Some, None, is_some}
 use Rattle.hm_base.specs.declared.entry.Entry.{Entry}
 use Rattle.hm_base.specs.declared.node.Node.TheVariants as node

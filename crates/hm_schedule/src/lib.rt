@@ -12,5 +12,3 @@ pub mod opening;
 pub mod reading;
 mod reads;
 pub mod stage;
-#[cfg(test)]
-mod tests;

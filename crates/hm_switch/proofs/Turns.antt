@@ -2,9 +2,9 @@
 use Rattle.std.proofs.Common.{◌≡◌, ℕ, ◌+◌, ◌-◌, ◌<◌, ◌≤◌, Bool, true, false, List, [], ◌∷◌, ◌++◌, length, drop, max, Option, Some, None, refl, sym, ap, ◌∙◌, arith, length-append}
 use Rattle.std.specs.Prelude.{not, ◌&&◌, ◌||◌, ◌==◌, nat_lt, nat_le, if◌then◌else◌, is_some, is_none}
 use Rattle.std.specs.List.{AllByRecursion}
-use Rattle.std.proofs.lemmas.Bool.{both_ways, false≢true, not-true, not-false, and_parts, and_from, lt-ltb, le-ltb, le-leb, eq-eqb, ne_eqb, or_from, not_from_true, not_from_false, cond_both}
+use Rattle.std.proofs.lemmas.Bool.{both_ways, false≢true, not-true, not-false, and_parts, and_from, lt-ltb, le-ltb, le-leb, eq-eqb, ne_eqb, or_from, not_from_true, not_from_false, cond_both, cond-false}
 use Rattle.std.proofs.lemmas.List.{drop_all, drop-append-le, length-drop}
-use Rattle.hm_base.specs.Slots.{Slots, live_stage, free_stage, or_else, is_full, put}
+use Rattle.hm_base.specs.Slots.{Slots, live_slots, slots_raised, is_full, put}
 use Rattle.hm_base.specs.declared.node.Node.{Node}
 use Rattle.hm_base.specs.declared.node.Node.TheVariants as node
 use Rattle.hm_base.specs.declared.why.Why.TheVariants as why
@@ -29,44 +29,39 @@ use Rattle.hm_switch.proofs.Lists.{equal_turned, last_some, last-push, last-drop
 pub dirty_is : (seen : SwitchState) (s : AbstractSwitch) → StandsFor seen s → (object : ℕ) → is_some (live_number seen.dirty object) ≡ is_dirty s object
 dirty_is seen s h object = ap (λ (o : Option ℕ). is_some o) (h.numbers object) ∙ last_some (s.point + 1) object (outstanding s)
 
-slots_same : (slots : Slots) (s t : AbstractSwitch) → t.numbered ≡ s.numbered → slots ≡ slots_then slots s t
-slots_same slots s t e =
-    sym (ap (λ (l : List ℕ). put_all slots s.point (length s.numbered + 1) l) (ap (λ (l : List ℕ). drop (length s.numbered) l) e ∙ drop_all (length s.numbered) s.numbered (omega arith)))
-
 -- a step that numbers no write
-keeps : (old new : SwitchState) (made : Turn) (s : AbstractSwitch) (t : Turned) → StandsFor new t.switch → made ≡ t.turn → slots_of new.dirty ≡ slots_of old.dirty → t.switch.numbered ≡ s.numbered → TurnsTo old new made s t
-keeps old new made s t h e slots numbered = record { switch = h; turn = e; slots = slots ∙ slots_same (slots_of old.dirty) s t.switch numbered }
+keeps : (old new : SwitchState) (made : Turn) (s : AbstractSwitch) (t : Turned) → StandsFor new t.switch → made ≡ t.turn → slots_of new.dirty ≡ slots_raised s.point t.switch.point (slots_of old.dirty) → t.switch.numbered ≡ s.numbered → TurnsTo old new made s t
+keeps old new made s t h e slots numbered =
+    let none : drop (length s.numbered) t.switch.numbered ≡ [] = ap (λ (l : List ℕ). drop (length s.numbered) l) numbered ∙ drop_all (length s.numbered) s.numbered (omega arith) in
+    record { switch = h; turn = e; slots = slots ∙ sym (ap (λ (l : List ℕ). slots_raised s.point t.switch.point (put_all (slots_of old.dirty) s.point (length s.numbered + 1) l)) none) }
+
+-- a point that stays leaves the slots as they are
+not_raised : (slots : Slots) (point : ℕ) → slots_raised point point slots ≡ slots
+not_raised slots point = cond-false (nat_lt point point) (live_slots point slots) slots (le-ltb point point (omega arith))
 
 -- a step that changes nothing
 pub still : (old : SwitchState) (made : Turn) (s : AbstractSwitch) (t : Turn) → StandsFor old s → made ≡ t → TurnsTo old old made s (record { switch = s; turn = t })
-still old made s t h e = keeps old old made s (record { switch = s; turn = t }) h e refl refl
+still old made s t h e = keeps old old made s (record { switch = s; turn = t }) h e (sym (not_raised (slots_of old.dirty) s.point)) refl
 
 -- ---- writes
-
-full_clean : (slots : Slots) (point object : ℕ) → is_full slots point object ≡ true → is_some (number_of slots point object) ≡ false
-full_clean slots point object full = cases (live_stage slots point object) full
-  where
-    cases : (at : Option ℕ) → is_none (or_else at (free_stage slots point object)) ≡ true → is_some (number_in slots object at) ≡ false
-    cases None e = refl
-    cases (Some at) e = absurd (false≢true e)
 
 all_dirty : (seen : SwitchState) (s : AbstractSwitch) → StandsFor seen s → (os : List ℕ) → AllByRecursion (λ o. is_some (live_number seen.dirty o) ≡ true) os → AllByRecursion (λ o. stands_in o (outstanding s) ≡ true) os
 all_dirty seen s h [] live = tt
 all_dirty seen s h (o ∷ os) live = (sym (dirty_is seen s h o) ∙ live.0, all_dirty seen s h os live.1)
 
 -- full slots are a reason to refuse
-may_refuse_full : (seen : SwitchState) (s : AbstractSwitch) (object : ℕ) → StandsFor seen s → is_full (slots_of seen.dirty) seen.dirty.point object ≡ true → IsCrowd seen.dirty object → may_refuse s object ≡ true
-may_refuse_full seen s object h full crowd =
+may_refuse_full : (seen : SwitchState) (s : AbstractSwitch) (object : ℕ) → StandsFor seen s → IsCrowd seen.dirty object → may_refuse s object ≡ true
+may_refuse_full seen s object h crowd =
     let few : length crowd.objects ≤ count_distinct (outstanding s) = others_few object (outstanding s) crowd.objects crowd.others (all_dirty seen s h crowd.objects crowd.live) in
     let many : length crowd.objects ≡ s.stages = crowd.many ∙ h.stages in
     and_from (not (is_dirty s object)) (nat_le s.stages (count_distinct (outstanding s)))
-    (not_from_false (is_dirty s object) (sym (dirty_is seen s h object) ∙ full_clean (slots_of seen.dirty) seen.dirty.point object full))
+    (not_from_false (is_dirty s object) (sym (dirty_is seen s h object) ∙ ap (λ (o : Option ℕ). is_some o) crowd.clean))
     (le-leb s.stages (count_distinct (outstanding s)) (omega arith))
 
 pub write_refused : (old : SwitchState) (made : Turn) (s : AbstractSwitch) (client : ℕ) (write : Write) → StandsFor old s → is_full (slots_of old.dirty) old.dirty.point write.object ≡ true → IsCrowd old.dirty write.object
     → made ≡ turn.Full → TurnsTo old old made s (on_write (is_full (slots_of old.dirty) old.dirty.point write.object) s client write)
 write_refused old made s client write h full crowd e =
-    let test : (is_full (slots_of old.dirty) old.dirty.point write.object && may_refuse s write.object) ≡ true = and_from (is_full (slots_of old.dirty) old.dirty.point write.object) (may_refuse s write.object) full (may_refuse_full old s write.object h full crowd) in
+    let test : (is_full (slots_of old.dirty) old.dirty.point write.object && may_refuse s write.object) ≡ true = and_from (is_full (slots_of old.dirty) old.dirty.point write.object) (may_refuse s write.object) full (may_refuse_full old s write.object h crowd) in
     cond_both (is_full (slots_of old.dirty) old.dirty.point write.object && may_refuse s write.object) _ _ (λ (u : Turned). TurnsTo old old made s u)
     (λ is. still old made s _ h e)
     (λ other. absurd (both_ways (is_full (slots_of old.dirty) old.dirty.point write.object && may_refuse s write.object) other test))
@@ -111,6 +106,7 @@ slots_after_put old table s object h p =
     ∙ ap (λ (k : ℕ). put (slots_of old.dirty) k object (old.dirty.greatest + 1)) h.point
     ∙ ap (λ (k : ℕ). put (slots_of old.dirty) s.point object (k + 1)) h.counter
     ∙ ap (λ (l : List ℕ). put_all (slots_of old.dirty) s.point (length s.numbered + 1) l) (sym last)
+    ∙ sym (not_raised _ s.point)
 
 pub write_taken : (old : SwitchState) (table : Table) (made : Turn) (s : AbstractSwitch) (client : ℕ) (write : Write) → StandsFor old s → old.dirty.point ≤ old.dirty.greatest → IsPut old.dirty table write.object
     → is_full (slots_of old.dirty) old.dirty.point write.object ≡ false → made ≡ put_from old.id (old.dirty.greatest + 1) old.route client write
@@ -131,7 +127,7 @@ pub record IsCleaned (old new : Table) (later : ℕ) : Type 0 where
   pub point : new.point ≡ later
   pub stages : new.stages ≡ old.stages
   pub numbers : (o : ℕ) → live_number new o ≡ number_above later (live_number old o)
-  pub slots : slots_of new ≡ slots_of old
+  pub slots : slots_of new ≡ slots_raised old.point later (slots_of old)
 
 stands_after_clean : (old : SwitchState) (table : Table) (s : AbstractSwitch) (seq : ℕ) → StandsFor old s → IsCleaned old.dirty table (max old.dirty.point seq) → StandsFor (record old { dirty = table }) (record s { point = max s.point seq })
 stands_after_clean old table s seq h p =
@@ -166,7 +162,7 @@ done_raised old table made s done h own some within p e =
     (λ is. absurd (both_ways (not (done.stamp.switch == s.id)) first is))
     (λ differs. cond_both ((done.stamp.seq == 0) || nat_lt (length s.numbered) done.stamp.seq) _ _ (λ (t : Turned). TurnsTo old (record old { dirty = table }) made s t)
     (λ is. absurd (both_ways ((done.stamp.seq == 0) || nat_lt (length s.numbered) done.stamp.seq) second is))
-    (λ other. keeps old (record old { dirty = table }) made s _ (stands_after_clean old table s done.stamp.seq h p) (e ∙ ap (λ (k : ℕ). answer_from k done) h.id) p.slots refl))
+    (λ other. keeps old (record old { dirty = table }) made s _ (stands_after_clean old table s done.stamp.seq h p) (e ∙ ap (λ (k : ℕ). answer_from k done) h.id) (p.slots ∙ ap (λ (k : ℕ). slots_raised k (max k done.stamp.seq) (slots_of old.dirty)) h.point) refl))
 
 -- ---- the step
 

@@ -1,6 +1,6 @@
 -- Which of the rules' switches a switch stands for, and what a step makes of them.
 use Rattle.std.specs.Prelude.{◌≡◌, ℕ, ◌+◌, ◌==◌, Bool, false, if◌then◌else◌, List, [], ◌∷◌, length, drop, Option, Some, None}
-use Rattle.hm_base.specs.Slots.{Slots, is_full, or_else}
+use Rattle.hm_base.specs.Slots.{Slots, slots_raised, is_full, or_else}
 use Rattle.hm_packet.specs.declared.body.Body.{Body}
 use Rattle.hm_packet.specs.declared.body.Body.TheVariants as body
 use Rattle.hm_packet.specs.declared.turn.Turn.{Turn}
@@ -27,9 +27,10 @@ pub record StandsFor (seen : SwitchState) (s : AbstractSwitch) : Type 0 where
   pub stages : seen.dirty.stages ≡ s.stages
   pub life : seen.life ≡ s.life
 
--- each write that was numbered in the step went into its slots
+-- each write that was numbered in the step went into its slots, and what is at or below the point then is none
 abbrev pub slots_then : Slots → AbstractSwitch → AbstractSwitch → Slots
-slots_then slots before after = put_all slots before.point (length before.numbered + 1) (drop (length before.numbered) after.numbered)
+slots_then slots before after =
+    slots_raised before.point after.point (put_all slots before.point (length before.numbered + 1) (drop (length before.numbered) after.numbered))
 
 -- a step that does what the rules say of the abstract switch
 pub record TurnsTo (old new : SwitchState) (made : Turn) (s : AbstractSwitch) (t : Turned) : Type 0 where

@@ -26,8 +26,12 @@ mod replay;
 #[cfg(test)]
 mod rows;
 #[cfg(test)]
+mod schedule;
+#[cfg(test)]
 mod shim;
 #[cfg(test)]
 mod show;
 #[cfg(test)]
 mod switch;
+#[cfg(test)]
+mod world;

@@ -1,12 +1,9 @@
 pub mod Numbered
 pub mod SlotLemmas
-pub mod ReplicaLemmas
 pub mod GroupLemmas
 pub mod TurnLemmas
 pub mod StateLemmas
 pub mod LiveLemmas
-pub mod ServiceLemmas
-pub mod ChainIdle
 pub mod SetupLemmas
 pub mod OpenLemmas
 pub mod SoundLemmas

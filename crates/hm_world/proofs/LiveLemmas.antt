@@ -19,8 +19,12 @@ use Rattle.hm_rules.specs.Replica.{Replica}
 use Rattle.hm_rules.specs.ReplicaSteps.{Stepped}
 use Rattle.hm_rules.specs.World.{World, Happened, barred, ignored_at, taken, is_stopped}
 use Rattle.hm_rules.specs.Deliveries as arrival
+use Rattle.hm_rules.specs.Events.{Event}
+use Rattle.hm_rules.specs.Service.{is_fixed}
+use Rattle.hm_rules.specs.Viewstamped.{vr_timeout}
 use Rattle.hm_rules.specs.Happens as rules
 use Rattle.hm_base.specs.declared.entry.Entry.{Entry}
+use Rattle.hm_base.proofs.ListLaws.{prefix_is_take, set_same}
 use Rattle.hm_base.specs.Lists.{IsPrefix}
 use Rattle.hm_packet.specs.declared.outcome.Outcome.{Outcome}
 use Rattle.hm_parts.specs.Seen.{Posted, Noted}
@@ -28,7 +32,6 @@ use Rattle.hm_world.specs.declared.state.State.{State}
 use Rattle.hm_world.specs.Grouped.{Grouped, IsGroupStep}
 use Rattle.hm_world.specs.Settled.{live_bar, settled}
 use Rattle.hm_world.specs.StateFields.{world_of, HasRoom, Quietly}
-use Rattle.hm_world.proofs.ReplicaLemmas.{get_set, front_taken}
 
 -- ---- who can act
 
@@ -64,6 +67,12 @@ barred_at w number does b e = barred_by w number does (slice_get w.replicas numb
 pub acts_at : (w : World) (number : ℕ) (does : Replica → Happened) (r : Replica) → IsLive w number r → rules.at_live w number does (slice_get w.replicas number) ≡ does r
 acts_at w number does r l =
     ap (λ (o : Option Replica). rules.at_live w number does o) l.here ∙ ap (λ (b : Bool). if b then barred w bar.Stopped else does r) l.running
+
+-- a timeout, in a fixed group
+pub times_out : (w : World) (number : ℕ) (r : Replica) → is_fixed w.setup.kind ≡ true → IsLive w number r → rules.happens w (Event.Timeout number) false ≡ arrival.at_replica w number (vr_timeout r)
+times_out w number r fixed l =
+    ap (λ (b : Bool). if b then rules.at_live w number (λ q. arrival.at_replica w number (vr_timeout q)) (slice_get w.replicas number) else barred w bar.NotVr) fixed
+    ∙ acts_at w number (λ q. arrival.at_replica w number (vr_timeout q)) r l
 
 -- a packet to a replica that can't act
 gone_by : (w : World) (m : Message) (number : ℕ) (o : Option Replica) (stopped : Bool) (b : Bar) → is_stopped w number ≡ stopped → bar_for o stopped ≡ Some b
@@ -122,7 +131,7 @@ pub acts : (old new : State) (o : Outcome) (g : Grouped) (number : ℕ) (acted :
     → ((r : Replica) → slice_get g.replicas number ≡ Some r → Quietly (stepped_to old g) new o (settled (world_of (stepped_to old g)) r.log acted acted.did)) → Quietly old new o (arrival.at_replica (world_of old) number s)
 acts old new o g number acted s r here step settle =
     let w : World = world_of old in
-    let there : slice_get g.replicas number ≡ Some s.replica = ap (λ (x : Grouped). slice_get x.replicas number) step.same ∙ get_set old.group.replicas number s.replica (slice_get_within old.group.replicas number r here) in
+    let there : slice_get g.replicas number ≡ Some s.replica = ap (λ (x : Grouped). slice_get x.replicas number) step.same ∙ set_same old.group.replicas number s.replica r here in
     let q = settle s.replica there in
     let mid : world_of (stepped_to old g) ≡ half w number s.replica = ap (λ (x : Grouped). world_of (stepped_to old x)) step.same in
     let still : s.did ≢ did.Done → half w number s.replica ≡ w = λ ne. sym mid ∙ ap (λ (x : Grouped). world_of (stepped_to old x)) (step.idle ne) in
@@ -132,7 +141,7 @@ acts old new o g number acted s r here step settle =
       world = q.world ∙ ap (λ (h : Happened). h.world) is;
       outcome = q.outcome ∙ ap (λ (h : Happened). h.outcome) is;
       switches = q.switches;
-      keeps = record { events = q.keeps.events; net = q.keeps.net; steps = q.keeps.steps; clients = q.keeps.clients; service = q.keeps.service };
+      keeps = record { events = q.keeps.events; net = q.keeps.net; steps = q.keeps.steps; clients = q.keeps.clients; service = q.keeps.service; group = q.keeps.group ∙ ap (λ (x : Grouped). x.kind) step.same };
     }
 
 -- what a replica's step gave, in the state
@@ -145,7 +154,7 @@ settles_done old log acted seen net first count seen_is net_is first_is count_is
       world = ap (λ (x : Noted). world_of (record old { observer = x; net = net })) seen_is ∙ ap (λ (x : Posted). world_of (record old { observer = record old.observer { declared = declared_after old.observer.declared log acted.declared.to; history = old.observer.history ++ commits_since old.observer.declared (declared_after old.observer.declared log acted.declared.to) }; net = x })) net_is;
       outcome = ap (λ (n : ℕ). outcome.Ok n count) first_is ∙ ap (λ (n : ℕ). outcome.Ok (length old.net.packets + 1) n) many;
       switches = refl;
-      keeps = record { events = refl; net = ap (λ (x : Posted). x.limit) net_is; steps = omega arith; clients = omega arith; service = refl };
+      keeps = record { events = refl; net = ap (λ (x : Posted). x.limit) net_is; steps = omega arith; clients = omega arith; service = refl; group = refl };
     }
 
 -- ---- what a step may declare
@@ -153,14 +162,14 @@ settles_done old log acted seen net first count seen_is net_is first_is count_is
 front_is : (declared log : List Entry) (to : ℕ) → IsPrefix declared (declared_after declared log to) → length declared < to → take (length declared) log ≡ declared
 front_is declared log to p more =
     let longer : declared_after declared log to ≡ take to log = cond-true (nat_lt (length declared) to) (take to log) declared (lt-ltb (length declared) to more) in
-    sym (take-take (length declared) to log (omega (arith, more))) ∙ ap (take (length declared)) (sym longer) ∙ front_taken declared (declared_after declared log to) p
+    sym (take-take (length declared) to log (omega (arith, more))) ∙ ap (take (length declared)) (sym longer) ∙ prefix_is_take p
 
 -- the log of the replica that made a step goes on from the declared list as far as it is declared
 pub front : (old : State) (g : Grouped) (number : ℕ) (acted : Acted) (s : Stepped) (r : Replica) → slice_get old.group.replicas number ≡ Some r → IsGroupStep old.group g number acted s
     → (s.did ≡ did.Done → IsPrefix old.observer.declared (declared_after old.observer.declared s.replica.log s.declared.to))
     → (q : Replica) → slice_get g.replicas number ≡ Some q → acted.did ≡ did.Done → length old.observer.declared < acted.declared.to → take (length old.observer.declared) q.log ≡ old.observer.declared
 front old g number acted s r here step ready q at done more =
-    let there : slice_get g.replicas number ≡ Some s.replica = ap (λ (x : Grouped). slice_get x.replicas number) step.same ∙ get_set old.group.replicas number s.replica (slice_get_within old.group.replicas number r here) in
+    let there : slice_get g.replicas number ≡ Some s.replica = ap (λ (x : Grouped). slice_get x.replicas number) step.same ∙ set_same old.group.replicas number s.replica r here in
     let same : s.replica ≡ q = same_Some _ _ (sym there ∙ at) in
     let less : length old.observer.declared < s.declared.to = subst (λ (d : Declared). length old.observer.declared < d.to) step.gives.declared more in
     subst (λ (x : Replica). take (length old.observer.declared) x.log ≡ old.observer.declared) same (front_is old.observer.declared s.replica.log s.declared.to (ready (sym step.gives.did ∙ done)) less)
@@ -174,4 +183,4 @@ step_there old g number acted s r here step =
 pub room_stepped : (old : State) (g : Grouped) (number : ℕ) (acted : Acted) (s : Stepped) → HasRoom old → IsGroupStep old.group g number acted s → HasRoom (stepped_to old g)
 room_stepped old g number acted s r step =
     let cap : g.cap ≡ old.group.cap = ap (λ (x : Grouped). x.cap) step.same in
-    record { few = r.few; net = r.net; sent = r.sent; marks = omega (arith, r.marks, cap); entries = omega (arith, r.entries, cap); clients = r.clients; requests = r.requests; steps = r.steps; stops = r.stops; group = ap (λ (x : Grouped). x.kind) step.same ∙ r.group; service = r.service }
+    record { few = r.few; net = r.net; sent = r.sent; marks = omega (arith, r.marks, cap); entries = omega (arith, r.entries, cap); clients = r.clients; requests = r.requests; steps = r.steps; stops = r.stops; service = r.service ∙ sym (ap (λ (x : Grouped). x.kind) step.same) }

@@ -1,8 +1,9 @@
 -- The slots of the switches after an event, and which writes find them full.
 use Rattle.std.proofs.Common.{◌≡◌, ℕ, ◌+◌, ◌-◌, Bool, List, [], ◌∷◌, ◌++◌, length, Option, Some, refl, sym, ap, ◌∙◌, subst, arith, length-append}
-use Rattle.std.specs.Prelude.{slice_set}
+use Rattle.std.specs.Prelude.{slice_set, nat_lt}
+use Rattle.std.proofs.lemmas.Bool.{cond-false, le-ltb}
 use Rattle.std.proofs.lemmas.List.{drop_all, length-map}
-use Rattle.hm_base.specs.Slots.{Slots}
+use Rattle.hm_base.specs.Slots.{Slots, live_slots, slots_raised}
 use Rattle.hm_base.specs.declared.node.Node.{Node}
 use Rattle.hm_dirtyset.specs.Table.{slots_of}
 use Rattle.hm_packet.specs.declared.body.Body.{Body}
@@ -35,7 +36,8 @@ slots_stay setup [] [] many = refl
 slots_stay setup [] (s ∷ ss) many = absurd (omega (arith, many))
 slots_stay setup (t ∷ ts) [] many = absurd (omega (arith, many))
 slots_stay setup (t ∷ ts) (s ∷ ss) many =
-    ap (λ (l : List ℕ). put_all t s.point (length s.numbered + 1) l ∷ slots_after setup ts ss ss) (drop_all (length s.numbered) s.numbered (omega arith))
+    ap (λ (l : List ℕ). slots_raised s.point s.point (put_all t s.point (length s.numbered + 1) l) ∷ slots_after setup ts ss ss) (drop_all (length s.numbered) s.numbered (omega arith))
+    ∙ ap (λ (x : Slots). x ∷ slots_after setup ts ss ss) (cond-false (nat_lt s.point s.point) (live_slots s.point t) t (le-ltb s.point s.point (omega arith)))
     ∙ ap (λ (l : List Slots). t ∷ l) (slots_stay setup ts ss (omega (arith, many)))
 
 follow_quietly : (old new : State) → new.switches ≡ old.switches → slotted_of new ≡ slotted_after (slotted_of old) (world_of new)
@@ -98,11 +100,11 @@ turned_outcome w n s turn.Full = refl
 turned_outcome w n s turn.Spent = refl
 
 turned_keeps : (old : State) (r : Running) (made : Turn) → r.steps ≡ old.switches.steps + 1 → Keeps old (turned_to old r made)
-turned_keeps old r (turn.Sent p) steps = record { events = refl; net = refl; steps = omega (arith, steps); clients = omega arith; service = refl }
-turned_keeps old r turn.Noted steps = record { events = refl; net = refl; steps = omega (arith, steps); clients = omega arith; service = refl }
-turned_keeps old r (turn.Ignored reason) steps = record { events = refl; net = refl; steps = omega (arith, steps); clients = omega arith; service = refl }
-turned_keeps old r turn.Full steps = record { events = refl; net = refl; steps = omega (arith, steps); clients = omega arith; service = refl }
-turned_keeps old r turn.Spent steps = record { events = refl; net = refl; steps = omega (arith, steps); clients = omega arith; service = refl }
+turned_keeps old r (turn.Sent p) steps = record { events = refl; net = refl; steps = omega (arith, steps); clients = omega arith; service = refl; group = refl }
+turned_keeps old r turn.Noted steps = record { events = refl; net = refl; steps = omega (arith, steps); clients = omega arith; service = refl; group = refl }
+turned_keeps old r (turn.Ignored reason) steps = record { events = refl; net = refl; steps = omega (arith, steps); clients = omega arith; service = refl; group = refl }
+turned_keeps old r turn.Full steps = record { events = refl; net = refl; steps = omega (arith, steps); clients = omega arith; service = refl; group = refl }
+turned_keeps old r turn.Spent steps = record { events = refl; net = refl; steps = omega (arith, steps); clients = omega arith; service = refl; group = refl }
 
 pub turns : (old : State) (r : Running) (made : Turn) (n : ℕ) (m : Message) (s : AbstractSwitch) → switch_at (world_of old) n ≡ Some s → IsTurn old.switches r n made s m
     → Ends old (turned_to old r made) (told_by made (length old.net.packets)) (to_switch (finds_full_in (slotted_of old) n m.body) (world_of old) m n (switch_at (world_of old) n))

@@ -3,7 +3,7 @@ use Rattle.std.proofs.Common.{◌≡◌, sym, ap, subst}
 use Rattle.std.specs.Prelude.{OnOk, OnErr, Result, Ok, Err}
 use Rattle.hm_base.specs.declared.memory.NoMemory.{NoMemory}
 use Rattle.hm_packet.specs.declared.outcome.Outcome.{Outcome}
-use Rattle.hm_chain_laws.specs.Chained.{IsSound}
+use Rattle.hm_group_laws.specs.Groups.{IsSound}
 use Rattle.hm_refusal_laws.specs.Slotting.{slot_happens, slot_step}
 use Rattle.hm_rules.specs.Events.{Event}
 use Rattle.hm_rules.specs.Runs.{Slotted}

@@ -36,11 +36,11 @@ kept_after mid new begun keeps =
       net = omega (arith, r.sent, keeps.events, keeps.net);
       steps = omega (arith, r.steps, keeps.events, keeps.steps);
       clients = omega (arith, r.requests, keeps.events, keeps.clients);
-      service = keeps.service ∙ r.service;
+      service = keeps.service ∙ r.service ∙ sym keeps.group;
     }
 
 keeps_same : (old : State) → Keeps old old
-keeps_same old = record { events = refl; net = refl; steps = omega arith; clients = omega arith; service = refl }
+keeps_same old = record { events = refl; net = refl; steps = omega arith; clients = omega arith; service = refl; group = refl }
 
 -- ---- packets
 
@@ -75,8 +75,8 @@ begun_passed : (old : State) → IsBegun old → IsBegun (passed_to old)
 begun_passed old b =
     let r = b.room in
     record {
-      room = record { few = r.few; net = r.net; sent = r.sent; marks = r.marks; entries = r.entries; clients = r.clients; requests = r.requests; steps = r.steps; stops = r.stops; group = r.group; service = r.service };
-      ready = record { kind = b.ready.kind; declared = λ n s step. b.ready.declared n s (step_before (world_of old) n s step) };
+      room = record { few = r.few; net = r.net; sent = r.sent; marks = r.marks; entries = r.entries; clients = r.clients; requests = r.requests; steps = r.steps; stops = r.stops; service = r.service };
+      ready = record { declared = λ n s step. b.ready.declared n s (step_before (world_of old) n s step) };
     }
 
 pub begun_next : (old : State) (net : Posted) → net ≡ record old.net { cursor = old.net.cursor + 1 } → IsBegun old → IsBegun (record old { net = net })
@@ -94,7 +94,7 @@ passed_ends old new o m e =
     let same : arriving (passed_to old) m ≡ next (finds_full_in (slotted_of old) (number m.dst) m.body) (world_of old) (Some m) =
     ap (λ (b : Bool). to_node b (passed (world_of old)) m m.dst) (full_once_passed old (number m.dst) m.body) in
     subst (λ (h : Happened). Ends old new o h) same
-    (record { world = e.world; outcome = e.outcome; keeps = record { events = e.keeps.events; net = e.keeps.net; steps = e.keeps.steps; clients = e.keeps.clients; service = e.keeps.service } })
+    (record { world = e.world; outcome = e.outcome; keeps = record { events = e.keeps.events; net = e.keeps.net; steps = e.keeps.steps; clients = e.keeps.clients; service = e.keeps.service; group = e.keeps.group } })
 
 -- the packet at the cursor arrives once the cursor has passed it
 pub next_ends : (old new : State) (o : Outcome) (net : Posted) (m : Message) → net ≡ record old.net { cursor = old.net.cursor + 1 } → Some m ≡ slice_get old.net.packets old.net.cursor → Ends (record old { net = net }) new o (arriving (record old { net = net }) m)

@@ -1,5 +1,5 @@
 -- What contracts see of a group's fields, and what holds of them.
-use Rattle.std.specs.Prelude.{◌≡◌, ◌≤◌, ℕ, List, None, All}
+use Rattle.std.specs.Prelude.{◌≡◌, ◌≤◌, List, All}
 use Rattle.hm_base.specs.declared.node.GroupKind.{GroupKind}
 use Rattle.hm_base.specs.declared.node.GroupKind.TheVariants as kind
 use Rattle.hm_rules.specs.Replica.{Replica}
@@ -18,11 +18,6 @@ replicas_in (members.Chain list) = list.items
 abbrev pub grouped_of : Inside → Grouped
 grouped_of g = record { kind = kind_in g.members; cap = g.cap; replicas = replicas_in g.members }
 
--- a chain's member, which stages no list
-pub record IsMember (cap : ℕ) (r : Replica) : Type 0 where
-  pub cap_is : r.cap ≡ cap
-  pub unstaged : r.staged ≡ None
-
 pub record IsKept (g : Inside) : Type 0 where
   pub bounded : g.cap ≤ max_log_len
-  pub replicas : All (λ (r : Replica). IsMember g.cap r) (replicas_in g.members)
+  pub caps : All (λ (r : Replica). r.cap ≡ g.cap) (replicas_in g.members)

@@ -1,5 +1,5 @@
 -- What contracts see of a group, and a step of one of its replicas.
-use Rattle.std.specs.Prelude.{◌≡◌, ◌≢◌, ℕ, List, slice_set}
+use Rattle.std.specs.Prelude.{◌≡◌, ◌≢◌, ℕ, List, slice_get, slice_set, Some}
 use Rattle.hm_base.specs.declared.node.GroupKind.{GroupKind}
 use Rattle.hm_packet.specs.declared.acted.Acted.{Acted}
 use Rattle.hm_packet.specs.declared.acted.Did.TheVariants.{Done}
@@ -23,3 +23,10 @@ pub record IsGroupStep (old new : Grouped) (number : ℕ) (acted : Acted) (s : S
   pub same : new ≡ record old { replicas = slice_set old.replicas number s.replica }
   pub gives : Gives s.replica acted s
   pub idle : s.did ≢ Done → new ≡ old
+
+-- the replica of this number made the step that is its own, among others and in a group
+abbrev pub StepsAt : List Replica → List Replica → ℕ → Acted → (Replica → Stepped) → Type 0
+StepsAt old new number acted step = (r : Replica) → slice_get old number ≡ Some r → IsStepAt old new number acted (step r)
+
+abbrev pub GroupSteps : Grouped → Grouped → ℕ → Acted → (Replica → Stepped) → Type 0
+GroupSteps old new number acted step = (r : Replica) → slice_get old.replicas number ≡ Some r → IsGroupStep old new number acted (step r)

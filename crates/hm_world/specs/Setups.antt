@@ -6,14 +6,14 @@ use Rattle.hm_schedule.specs.declared.event.Setup.{Setup}
 use Rattle.hm_world.specs.declared.fault.WorldFault.{WorldFault}
 use Rattle.hm_world.specs.declared.fault.WorldFault.TheVariants as fault
 
--- the groups that are built so far: chains
-abbrev pub is_chain : GroupKind → Bool
-is_chain kind.Chain = true
-is_chain kind.Primary = false
-is_chain kind.Vr = false
+-- the protocols that are built so far
+abbrev pub is_built : GroupKind → Bool
+is_built kind.Chain = true
+is_built kind.Primary = false
+is_built kind.Vr = false
 
 abbrev pub is_group : Setup → Bool
-is_group s = is_chain s.kind && (nat_le 1 s.size && nat_le s.size 7)
+is_group s = is_built s.kind && (nat_le 1 s.size && nat_le s.size 7)
 
 -- the first part of a setup that is out of its range, if any is
 abbrev pub setup_fault : Setup → Option WorldFault

@@ -1,6 +1,7 @@
 -- What holds of the fields of a switch with its dirty table.
 use Rattle.std.specs.Prelude.{ℕ, ◌≤◌, List, length, vec_capacity}
 use Rattle.hm_rules.specs.Switch.{AbstractSwitch}
+use Rattle.hm_schedule.specs.Limits.{max_events}
 use Rattle.hm_switch.specs.State.{SwitchState}
 use Rattle.hm_switch.specs.StandsFor.{StandsFor}
 use Rattle.hm_world.specs.declared.slotted.SlottedSwitch.TheInside.{Inside}
@@ -17,4 +18,4 @@ seen_of s = record { switch = abstract_of s.switch s.numbered.items; table = s.s
 pub record IsKept (s : Inside) : Type 0 where
   pub stands : StandsFor s.switch (abstract_of s.switch s.numbered.items)
   pub few : length s.numbered.items ≤ s.switch.handled
-  pub room : 16384 ≤ vec_capacity s.numbered
+  pub room : max_events ≤ vec_capacity s.numbered

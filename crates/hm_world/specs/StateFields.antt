@@ -1,6 +1,5 @@
 -- The rules' world for a state, what holds of a state between events and in one, and how an event ends.
 use Rattle.std.specs.Prelude.{◌≡◌, ℕ, ◌+◌, ◌*◌, ◌<◌, ◌≤◌, length, vec_len, vec_capacity}
-use Rattle.hm_base.specs.declared.node.GroupKind.TheVariants.{Chain}
 use Rattle.hm_base.specs.Lists.{IsPrefix}
 use Rattle.hm_core_laws.specs.Changes.{IsStep}
 use Rattle.hm_core_laws.specs.Owed.{declared_by}
@@ -23,9 +22,8 @@ slotted_of s = record { world = world_of s; slots = slots_in s.switches }
 
 -- ---- between events
 
--- a chain, in which what a step of a live replica declares goes on from the declared list
+-- what a step of a live replica declares goes on from the declared list
 pub record IsReady (w : rule.World) : Type 0 where
-  pub kind : w.setup.kind ≡ Chain
   pub declared : (number : ℕ) (s : Stepped) → IsStep w number s → IsPrefix w.declared (declared_by w s)
 
 pub record IsKept (s : State) : Type 0 where
@@ -33,7 +31,7 @@ pub record IsKept (s : State) : Type 0 where
   pub net : s.net.limit ≤ max_outs * s.events
   pub steps : s.switches.steps ≤ s.events
   pub clients : s.clients.kept ≤ s.events
-  pub service : s.service.kind ≡ Chain
+  pub service : s.service.kind ≡ s.group.kind
 
 -- ---- in an event
 
@@ -48,8 +46,7 @@ pub record HasRoom (s : State) : Type 0 where
   pub requests : s.clients.kept < s.events
   pub steps : s.switches.steps < s.events
   pub stops : vec_len s.stopped < vec_capacity s.stopped
-  pub group : s.group.kind ≡ Chain
-  pub service : s.service.kind ≡ Chain
+  pub service : s.service.kind ≡ s.group.kind
 
 pub record IsBegun (s : State) : Type 0 where
   pub room : HasRoom s
@@ -62,6 +59,7 @@ pub record Keeps (old new : State) : Type 0 where
   pub steps : new.switches.steps ≤ old.switches.steps + 1
   pub clients : new.clients.kept ≤ old.clients.kept + 1
   pub service : new.service.kind ≡ old.service.kind
+  pub group : new.group.kind ≡ old.group.kind
 
 -- an event that no switch has to do with ended as the rules say
 pub record Quietly (old new : State) (o : Outcome) (h : rule.Happened) : Type 0 where

@@ -1,6 +1,6 @@
 -- What contracts see of a world, and what holds of it.
 use Rattle.std.specs.Prelude.{ℕ, List, map}
-use Rattle.hm_chain_laws.specs.Chained.{IsSound}
+use Rattle.hm_group_laws.specs.Groups.{IsSound}
 use Rattle.hm_dirtyset.specs.Table.{Table, slots_of}
 use Rattle.hm_rules.specs.Runs.{Slotted}
 use Rattle.hm_rules.specs.World as rule

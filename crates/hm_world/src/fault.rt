@@ -8,6 +8,8 @@ use hm_base::node::GroupKind;
 use hm_packet::outcome::Bar;
 use hm_reconfig::fault::RemoveFault;
 use hm_schedule::event::Setup;
+use hm_store::ledger::MAX_LOG_LEN;
+use hm_switch::switch::MAX_LIFE;
 use std::alloc::AllocError;
 use thiserror::Error;
 
@@ -48,19 +50,26 @@ impl From<AllocError> for WorldFault {
 pub(crate) fn fault_of(setup: &Setup) -> Option<WorldFault>
     ensures { result ≡ setups.setup_fault setup.now }
 {
-    if setup.kind != GroupKind::Chain || setup.size < 1 || setup.size > 7 {
+    if !is_built(setup.kind) || setup.size < 1 || setup.size > 7 {
         Some(WorldFault::Group)
     } else if setup.stages < 1 || setup.stages > 4 {
         Some(WorldFault::Stages)
     } else if setup.bits > 12 {
         Some(WorldFault::Bits)
-    } else if setup.life < 1 || setup.life > 4_194_304 {
+    } else if setup.life < 1 || setup.life > MAX_LIFE {
         Some(WorldFault::Life)
-    } else if setup.cap < 1 || setup.cap > 16_384 {
+    } else if setup.cap < 1 || setup.cap > MAX_LOG_LEN {
         Some(WorldFault::Cap)
     } else {
         None
     }
+}
+
+/// Whether groups of this protocol can be run.
+fn is_built(kind: GroupKind) -> bool
+    ensures { result ≡ setups.is_built kind }
+{
+    matches!(kind, GroupKind::Chain)
 }
 
 /// The bar of a removal that the service refuses.

@@ -1,17 +1,19 @@
-ghost use Rattle.std.specs.Prelude.{◌≡◌, ◌<◌, ◌≤◌, ℕ, length, slice_get, Some, All, map, IfOk};
-ghost use Rattle.hm_base.specs.declared.node.GroupKind.TheVariants as kind;
+ghost use Rattle.std.specs.Prelude.{◌≡◌, ◌<◌, ◌≤◌, length, slice_get, true, Some, map, IfOk};
 ghost use Rattle.hm_rules.specs.Deliveries.{replica_step, replica_tick};
 ghost use Rattle.hm_rules.specs.Replica.{Replica, opened};
-ghost use Rattle.hm_rules.specs.Service.{replicas_below};
+ghost use Rattle.hm_rules.specs.Service.{is_fixed};
+ghost use Rattle.hm_rules.specs.Viewstamped.{vr_timeout};
 ghost use Rattle.hm_store.specs.Log.{max_log_len};
-ghost use Rattle.hm_world.specs.Grouped.{IsGroupStep, IsStepAt};
+ghost use Rattle.hm_world.specs.Grouped.{GroupSteps, StepsAt};
 ghost use Rattle.hm_world.specs.GroupFields.{kind_in, replicas_in};
+ghost use Rattle.hm_world.specs.Setups.{is_built};
 
 use hm_base::memory::NoMemory;
+use hm_base::node::GroupKind;
 use hm_chain::chain::Chain;
-use hm_chain_laws::growth::chain_log_grows;
 use hm_packet::acted::Acted;
 use hm_packet::packet::Packet;
+use hm_step_laws::steps::every_step_keeps;
 use hm_store::ledger::Ledger;
 use std::alloc::Global;
 use std::marker::Model;
@@ -22,7 +24,8 @@ pub(crate) enum Members {
     Chain(Vec<Chain>),
 }
 
-/// All replicas of a group, by number. Contracts see the protocol, how many entries a log may have, and the rules' replicas.
+/// All replicas of a group, by number: each of the calls acts by their protocol. Contracts see which it is, how many entries a log
+/// may have, and the rules' replicas.
 #[derive(Drop)]
 pub struct Group {
     members: Members,
@@ -42,21 +45,22 @@ impl Model for Group {
 }
 
 impl Group {
-    /// The replicas of a chain of this size before their first packets.
-    pub fn open_chain(
+    /// The replicas of a group of these members before their first packets. All their memory is taken here.
+    pub fn open(
         alloc: Global,
-        size: u8,
+        kind: GroupKind,
         cap: u32,
         members: &hm_base::members::Members,
     ) -> Result<Group, NoMemory>
-        requires few { size ≤ 7 }
+        requires built { is_built kind ≡ true }
         requires bounded { cap ≤ max_log_len }
-        ensures { IfOk result (λ g. g ≡ record { kind = kind.Chain; cap = cap; replicas = map (λ me. opened me members.now cap) (replicas_below size) }) }
+        ensures { IfOk result (λ g. g ≡ record { kind = kind; cap = cap; replicas = map (λ me. opened me members.now cap) members.now }) }
     {
-        Ok(Group {
-            members: Members::Chain(open_chains(alloc, size, cap, members)?),
-            cap,
-        })
+        let members = match kind {
+            GroupKind::Chain => Members::Chain(open_chains(alloc, cap, members)?),
+            GroupKind::Primary | GroupKind::Vr => unreachable!(),
+        };
+        Ok(Group { members, cap })
     }
 
     /// How many replicas there are.
@@ -65,6 +69,15 @@ impl Group {
     {
         match &self.members {
             Members::Chain(list) => list.len(),
+        }
+    }
+
+    /// Whether the members are fixed: then replicas time out, and none is removed.
+    pub fn is_fixed(&self) -> bool
+        ensures { result ≡ is_fixed self.now.kind }
+    {
+        match &self.members {
+            Members::Chain(_) => false,
         }
     }
 
@@ -90,36 +103,44 @@ impl Group {
     /// The replica of a number handles a packet.
     pub fn step(&mut self, number: u8, packet: &Packet, acted: &mut Acted)
         requires { number < length self.old.replicas }
-        ensures { (r : Replica) → slice_get self.old.replicas number ≡ Some r → IsGroupStep self.old self.new number acted.new (replica_step self.old.kind r packet.now) }
+        ensures { GroupSteps self.old self.new number acted.new (λ r. replica_step self.old.kind r packet.now) }
     {
-        chain_log_grows();
+        every_step_keeps();
         step_in(&mut self.members, number, packet, acted);
     }
 
     /// The replica of a number does what it does from time to time.
     pub fn tick(&mut self, number: u8, acted: &mut Acted)
         requires { number < length self.old.replicas }
-        ensures { (r : Replica) → slice_get self.old.replicas number ≡ Some r → IsGroupStep self.old self.new number acted.new (replica_tick self.old.kind r) }
+        ensures { GroupSteps self.old self.new number acted.new (λ r. replica_tick self.old.kind r) }
     {
-        chain_log_grows();
+        every_step_keeps();
         tick_in(&mut self.members, number, acted);
+    }
+
+    /// The replica of a number, in a fixed group, has waited too long for its leader.
+    pub fn timeout(&mut self, number: u8, acted: &mut Acted)
+        requires there { number < length self.old.replicas }
+        requires fixed { is_fixed self.old.kind ≡ true }
+        ensures { GroupSteps self.old self.new number acted.new vr_timeout }
+    {
+        every_step_keeps();
+        timeout_in(&mut self.members, number, acted);
     }
 }
 
 /// The members of a chain before their first packets.
 fn open_chains(
     alloc: Global,
-    size: u8,
     cap: u32,
     members: &hm_base::members::Members,
 ) -> Result<Vec<Chain>, NoMemory>
-    requires few { size ≤ 7 }
-    requires bounded { cap ≤ max_log_len }
-    ensures { IfOk result (λ rs. rs.items ≡ map (λ me. opened me members.now cap) (replicas_below size)) }
+    requires { cap ≤ max_log_len }
+    ensures { IfOk result (λ rs. rs.items ≡ map (λ me. opened me members.now cap) members.now) }
 {
-    let mut replicas = Vec::with_capacity(alloc, size as usize)?;
-    for me in 0..size {
-        replicas.push(Chain::open(alloc, me, members, cap)?)?;
+    let mut replicas = Vec::with_capacity(alloc, members.len() as usize)?;
+    for me in members.as_slice() {
+        replicas.push(Chain::open(alloc, *me, members, cap)?)?;
     }
     Ok(replicas)
 }
@@ -139,7 +160,7 @@ fn log_in(members: &Members, number: u8) -> &Ledger
 fn step_in(members: &mut Members, number: u8, packet: &Packet, acted: &mut Acted)
     requires { number < length (replicas_in members.old) }
     ensures kind { kind_in members.new ≡ kind_in members.old }
-    ensures step { (r : Replica) → slice_get (replicas_in members.old) number ≡ Some r → IsStepAt (replicas_in members.old) (replicas_in members.new) number acted.new (replica_step (kind_in members.old) r packet.now) }
+    ensures step { StepsAt (replicas_in members.old) (replicas_in members.new) number acted.new (λ r. replica_step (kind_in members.old) r packet.now) }
 {
     match members {
         Members::Chain(list) => list[number as usize].step(packet, acted),
@@ -150,9 +171,21 @@ fn step_in(members: &mut Members, number: u8, packet: &Packet, acted: &mut Acted
 fn tick_in(members: &mut Members, number: u8, acted: &mut Acted)
     requires { number < length (replicas_in members.old) }
     ensures kind { kind_in members.new ≡ kind_in members.old }
-    ensures step { (r : Replica) → slice_get (replicas_in members.old) number ≡ Some r → IsStepAt (replicas_in members.old) (replicas_in members.new) number acted.new (replica_tick (kind_in members.old) r) }
+    ensures step { StepsAt (replicas_in members.old) (replicas_in members.new) number acted.new (λ r. replica_tick (kind_in members.old) r) }
 {
     match members {
         Members::Chain(list) => list[number as usize].tick(acted),
+    }
+}
+
+/// One of these, of a fixed group, has waited too long for its leader.
+fn timeout_in(members: &mut Members, number: u8, acted: &mut Acted)
+    requires there { number < length (replicas_in members.old) }
+    requires fixed { is_fixed (kind_in members.old) ≡ true }
+    ensures kind { kind_in members.new ≡ kind_in members.old }
+    ensures step { StepsAt (replicas_in members.old) (replicas_in members.new) number acted.new vr_timeout }
+{
+    match members {
+        Members::Chain(_) => unreachable!(),
     }
 }

@@ -10,6 +10,4 @@ mod replica_events;
 mod slotted;
 mod state;
 mod switches;
-#[cfg(test)]
-mod tests;
 pub mod world;

@@ -47,6 +47,21 @@ impl State {
         self.settle(number, acted)
     }
 
+    /// A replica has waited too long for its leader.
+    pub(crate) fn timeout(&mut self, number: u8, acted: &mut Acted) -> Outcome
+        requires { IsBegun self.old }
+        ensures { Quietly self.old self.new result (rules.happens (world_of self.old) (event_of (Event.Timeout number)) false) }
+    {
+        if !self.group.is_fixed() {
+            return Outcome::NotAllowed(Bar::NotVr);
+        }
+        if let Some(bar) = self.bar_at(number) {
+            return Outcome::NotAllowed(bar);
+        }
+        self.group.timeout(number, acted);
+        self.settle(number, acted)
+    }
+
     /// A replica stops for good.
     pub(crate) fn stop(&mut self, number: u8) -> Outcome
         requires { IsBegun self.old }
@@ -64,7 +79,8 @@ impl State {
         requires { IsBegun self.old }
         ensures { Quietly self.old self.new result (rules.removal (world_of self.old) number) }
     {
-        if is_member(self.service.members(), number) && !is_in(number, &self.stopped) {
+        let runs = is_member(self.service.members(), number) && !is_in(number, &self.stopped);
+        if runs && !self.group.is_fixed() {
             return Outcome::NotAllowed(Bar::Live);
         }
         let first = self.net.len() + 1;

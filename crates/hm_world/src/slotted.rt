@@ -2,6 +2,7 @@ ghost use Rattle.std.specs.Prelude.{◌≡◌, ◌<◌, ◌≤◌, ◌++◌, Non
 ghost use Rattle.hm_base.specs.Slots.{no_slots};
 ghost use Rattle.hm_rules.specs.Switch as rule;
 ghost use Rattle.hm_dirtyset.specs.Table.{slots_of};
+ghost use Rattle.hm_schedule.specs.Limits.{max_events};
 ghost use Rattle.hm_switch.specs.Faults.{switch_fault};
 ghost use Rattle.hm_switch.specs.StandsFor.{slots_then};
 ghost use Rattle.hm_world.specs.Slotted.{finds_full, put_objects};
@@ -11,6 +12,7 @@ use hm_packet::body::Body;
 use hm_packet::packet::Packet;
 use hm_packet::route::Route;
 use hm_packet::turn::Turn;
+use hm_schedule::limits::MAX_EVENTS;
 use hm_switch::switch::Switch;
 use std::alloc::Global;
 use std::marker::Model;
@@ -54,13 +56,13 @@ impl SlottedSwitch {
         };
         Ok(SlottedSwitch {
             switch,
-            numbered: Vec::with_capacity(alloc, 16_384)?,
+            numbered: Vec::with_capacity(alloc, MAX_EVENTS as usize)?,
         })
     }
 
     /// One packet at the switch, which refuses a write exactly where its slots are full for the object.
     pub fn step(&mut self, packet: &Packet) -> Turn
-        requires { self.old.switch.handled < 16384 }
+        requires { self.old.switch.handled < max_events }
         ensures switch { self.new.switch ≡ (rule.switch_step (finds_full self.old packet.now.body) self.old.switch packet.now).switch }
         ensures turn { result ≡ (rule.switch_step (finds_full self.old packet.now.body) self.old.switch packet.now).turn }
         ensures slots { slots_of self.new.table ≡ slots_then (slots_of self.old.table) self.old.switch self.new.switch }

@@ -11,7 +11,7 @@ use hm_base::memory::NoMemory;
 use hm_order::history::History;
 use hm_order::mark::Want;
 use hm_packet::acted::Acted;
-use hm_packet::outcome::{Bar, Outcome};
+use hm_packet::outcome::Outcome;
 use hm_packet::packet::Packet;
 use hm_parts::clients::Clients;
 use hm_parts::net::Net;
@@ -20,8 +20,8 @@ use hm_reconfig::service::Service;
 use hm_schedule::event::{Event, Setup};
 use std::alloc::Global;
 
-/// All nodes of one group, the net of all packets ever sent, the clients and what an observer writes down. The rules' world for it is
-/// `world_of`.
+/// All nodes of one group, the net of all packets ever sent, the clients and what an observer writes down. The rules' world
+/// for it is `world_of`.
 #[derive(Drop)]
 pub struct State {
     pub(crate) setup: Setup,
@@ -53,7 +53,7 @@ impl State {
         }
         let service = Service::open(setup.kind, setup.size);
         let route = service.route();
-        let group = Group::open_chain(alloc, setup.size, setup.cap, service.members())?;
+        let group = Group::open(alloc, setup.kind, setup.cap, service.members())?;
         Ok(State {
             setup: *setup,
             net: Net::new(alloc),
@@ -132,7 +132,7 @@ impl State {
             Event::Tick { replica } => self.tick(*replica, acted),
             Event::Stop { replica } => self.stop(*replica),
             Event::Remove { replica } => self.remove(*replica),
-            Event::Timeout { .. } => Outcome::NotAllowed(Bar::NotVr),
+            Event::Timeout { replica } => self.timeout(*replica, acted),
         }
     }
 

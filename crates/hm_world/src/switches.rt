@@ -1,6 +1,7 @@
 ghost use Rattle.std.specs.Prelude.{◌≡◌, ◌<◌, ◌+◌, ◌∷◌, [], None, Some, IfOk, is_some, true};
 ghost use Rattle.hm_base.specs.Slots.{no_slots};
 ghost use Rattle.hm_rules.specs.Switch.{AbstractSwitch, opening};
+ghost use Rattle.hm_schedule.specs.Limits.{max_events};
 ghost use Rattle.hm_switch.specs.Faults.{switch_fault};
 ghost use Rattle.hm_world.specs.Running.{IsTurn, started_in, switches_in, slots_in};
 
@@ -12,8 +13,8 @@ use hm_packet::turn::Turn;
 use std::alloc::Global;
 use std::marker::Model;
 
-/// The switches that were started: the first has the number 1. Contracts see the rules' switches, their dirty tables, and how many
-/// packets they handled.
+/// The switches that were started: the first has the number 1. Contracts see the rules' switches, their dirty tables, and how
+/// many packets they handled.
 #[derive(Drop)]
 pub struct Switches {
     first: SlottedSwitch,
@@ -63,7 +64,7 @@ impl Switches {
     /// A switch that was started handles a packet.
     pub fn step(&mut self, number: u32, packet: &Packet) -> Turn
         requires started { is_some (started_in (switches_in self.old) number) ≡ true }
-        requires few { self.old.steps < 16384 }
+        requires few { self.old.steps < max_events }
         ensures { (s : AbstractSwitch) → started_in (switches_in self.old) number ≡ Some s → IsTurn self.old self.new number result s packet.now }
     {
         self.steps += 1;

@@ -7,7 +7,7 @@ ghost use Rattle.hm_schedule.specs.Limits.{max_events, max_packets};
 use crate::fault::WorldFault;
 use crate::state::State;
 use hm_base::memory::NoMemory;
-use hm_chain_laws::chain::{chain_stays_sound, sound_world_is_ready};
+use hm_group_laws::groups::{group_stays_sound, sound_group_is_ready};
 use hm_order::history::History;
 use hm_packet::acted::Acted;
 use hm_packet::outcome::Outcome;
@@ -17,8 +17,8 @@ use hm_schedule::event::{Event, Setup};
 use std::alloc::Global;
 use std::marker::Model;
 
-/// All nodes of one group, the net of all packets ever sent, the clients and the history. Contracts see the rules' world, which is
-/// sound.
+/// All nodes of one group, the net of all packets ever sent, the clients and the history. Contracts see the rules' world,
+/// which is sound.
 #[derive(Drop)]
 pub struct World {
     state: State,
@@ -48,14 +48,15 @@ impl World {
         ensures lawful { OnOk result (setup_fault setup.now ≡ None) }
         ensures fault { IfErr result (λ f. (f ≡ WorldFault.NoMemory) ⊎ (setup_fault setup.now ≡ Some f)) }
     {
-        chain_stays_sound();
+        group_stays_sound();
         Ok(World {
             state: State::open(alloc, setup)?,
             acted: blank(),
         })
     }
 
-    /// One event, with its bars in order. A switch refuses a write exactly where its slots are full for the object. A barred event changes nothing; want of memory changes nothing.
+    /// One event, with its bars in order. A switch refuses a write exactly where its slots are full for the object. A barred
+    /// event changes nothing, and neither does want of memory.
     pub fn event(&mut self, event: &Event) -> Result<Outcome, NoMemory>
         requires { self.old.events < max_events }
         ensures world { OnOk result (with_slots self.new ≡ slot_step (with_slots self.old) (event_of event.now)) }
@@ -64,8 +65,8 @@ impl World {
         ensures err { OnErr result (with_slots self.new ≡ with_slots self.old) }
         ensures err_events { OnErr result (self.new.events ≡ self.old.events) }
     {
-        chain_stays_sound();
-        sound_world_is_ready();
+        group_stays_sound();
+        sound_group_is_ready();
         self.state.event(event, &mut self.acted)
     }
 

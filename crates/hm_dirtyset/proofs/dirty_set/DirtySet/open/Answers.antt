@@ -1,5 +1,5 @@
 use Rattle.std.proofs.Common.{◌≡◌, ◌*◌, ◌^◌, ◌≤◌, sym, ap, ◌∙◌, subst, arith}
-use Rattle.hm_base.specs.Slots.{Slots, no_slots}
+use Rattle.hm_base.specs.Slots.{Slots, live_slots, no_slots}
 use Rattle.hm_dirtyset.specs.Table.{slots_in, number_of}
 use Rattle.hm_dirtyset.specs.Fields.{IsSingle, IsPlaced}
 use Rattle.hm_dirtyset.proofs.Shapes.{cells_few}
@@ -26,7 +26,7 @@ invariant_of-result c = record {
 }
 
 pub returns-clause-slots : goal.returns-clause-slots
-returns-clause-slots c = none_held c
+returns-clause-slots c = ap (live_slots 0) (none_held c)
 
 pub returns-clause-numbers : goal.returns-clause-numbers
 returns-clause-numbers c = λ o. ap (λ (s : Slots). number_of s 0 o) (none_held c) ∙ nothing_live c.args.stages c.args.bits 0 o

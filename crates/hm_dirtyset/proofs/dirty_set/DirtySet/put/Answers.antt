@@ -1,12 +1,26 @@
-use Rattle.std.proofs.Common.{◌≡◌, ◌<◌, ◌*◌, ◌^◌, ℕ, List, length, Some, None, sym, ap, ◌∙◌, subst, arith, rules, length-set}
+use Rattle.std.proofs.Common.{◌≡◌, ◌<◌, ◌*◌, ◌^◌, ℕ, List, length, Some, None, refl, sym, ap, ◌∙◌, subst, arith, rules, length-set}
 use Rattle.std.specs.Prelude.{◌==◌, if◌then◌else◌}
-use Rattle.hm_base.specs.Slots.{target, put}
+use Rattle.std.proofs.lemmas.Bool.{false≢true}
+use Rattle.hm_base.specs.Slots.{target, live_slots, put}
 use Rattle.hm_dirtyset.specs.declared.slot.Slot.{Slot}
 use Rattle.hm_dirtyset.specs.Table.{Table, slots_in, slots_of, live_number, IsCrowd}
 use Rattle.hm_dirtyset.specs.Fields.{table_of}
 use Rattle.hm_dirtyset.proofs.Lives.{crowd, target_none}
-use Rattle.hm_dirtyset.proofs.Puts.{IsChosen, chosen_from, slots_before, chosen_few, chosen_within, wrote_put, wrote_number, wrote_single, wrote_placed}
+use Rattle.hm_dirtyset.proofs.LiveSlots.{put_live}
+use Rattle.hm_dirtyset.proofs.Puts.{IsChosen, chosen_from, slots_before, full_is, chosen_few, chosen_within, wrote_put, wrote_number, wrote_single, wrote_placed}
 use Rattle.hm_dirtyset.proofs.dirty_set.DirtySet.put.Goals as goal
+
+pub returns-in_default-clause-room : goal.returns-in_default-clause-room
+returns-in_default-clause-room c =
+    let s = c.self.inside in
+    let full = full_is s c.args.self.now c.args.object None c.self.view_is (ap (λ (l : List Slot). target (slots_in s.stages s.bits l) s.point c.args.object) (sym c.deref.ensures.value) ∙ sym c.target.ensures ∙ c.in_default.is) in
+    (λ t. absurd (false≢true t), λ room. sym room ∙ full)
+
+pub returns-clause-room : goal.returns-clause-room
+returns-clause-room c =
+    let s = c.self.inside in
+    let room = full_is s c.args.self.now c.args.object (Some c.in-Some.stage) c.self.view_is (ap (λ (l : List Slot). target (slots_in s.stages s.bits l) s.point c.args.object) (sym c.deref.ensures.value) ∙ sym c.target.ensures ∙ c.in-Some.is) in
+    (λ t. room, λ f. refl)
 
 pub returns-in_default-clause-crowd : goal.returns-in_default-clause-crowd
 returns-in_default-clause-crowd c =
@@ -58,7 +72,8 @@ invariant_of-self c =
 
 pub returns-clause-slots : goal.returns-clause-slots
 returns-clause-slots c =
-    wrote_put c.self.inside c.args.object c.args.number c.in-Some.stage c.slot_of-at.result c.self.invariant (chosen c) (above c)
+    ap (live_slots c.self.inside.point) (wrote_put c.self.inside c.args.object c.args.number c.in-Some.stage c.slot_of-at.result c.self.invariant (chosen c) (above c))
+    ∙ put_live (slots_before c.self.inside) c.self.inside.point c.args.object c.args.number (above c)
     ∙ ap (λ (t : Table). put (slots_of t) t.point c.args.object c.args.number) c.self.view_is
 
 pub returns-clause-numbers : goal.returns-clause-numbers

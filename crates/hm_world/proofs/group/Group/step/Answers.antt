@@ -4,7 +4,7 @@ use Rattle.hm_rules.specs.Deliveries.{replica_step}
 use Rattle.hm_rules.specs.Replica.{Replica}
 use Rattle.hm_world.specs.Grouped.{Grouped, IsGroupStep}
 use Rattle.hm_world.specs.GroupFields.{kind_in, grouped_of}
-use Rattle.hm_world.proofs.GroupLemmas.{step_keeps, step_idles, group_step, group_members}
+use Rattle.hm_world.proofs.GroupLemmas.{group_step, group_members}
 use Rattle.hm_world.proofs.group.Group.step.Goals as goal
 
 pub invariant_of-self : goal.invariant_of-self
@@ -13,12 +13,12 @@ invariant_of-self c =
     let there = subst (λ (x : Grouped). c.args.number < length x.replicas) (sym c.self.view_is) c.requires in
     record {
       bounded = c.self.invariant.bounded;
-      replicas = group_members w (record { members = c.step_in.new.members; cap = w.cap }) c.args.number c.step_in.new.acted (λ (r : Replica). replica_step (kind_in w.members) r c.args.packet.now) there c.step_in.ensures.step
-          (λ r. step_keeps w.members c.chain_log_grows.ensures.step r c.args.packet.now) c.self.invariant.replicas;
+      caps = group_members w (record { members = c.step_in.new.members; cap = w.cap }) c.args.number c.step_in.new.acted (λ (r : Replica). replica_step (kind_in w.members) r c.args.packet.now) there c.step_in.ensures.step
+          (λ r. c.every_step_keeps.ensures.step (kind_in w.members) r c.args.packet.now) c.self.invariant.caps;
     }
 
 pub returns : goal.returns
 returns c =
     let w = c.self.inside in
     subst (λ (x : Grouped). (r : Replica) → slice_get x.replicas c.args.number ≡ Some r → IsGroupStep x (grouped_of (record { members = c.step_in.new.members; cap = w.cap })) c.args.number c.step_in.new.acted (replica_step x.kind r c.args.packet.now)) c.self.view_is
-    (λ r here. group_step w (record { members = c.step_in.new.members; cap = w.cap }) c.args.number c.step_in.new.acted _ r refl c.step_in.ensures.kind (c.step_in.ensures.step r here) here (step_idles w.members r c.args.packet.now))
+    (λ r here. group_step w (record { members = c.step_in.new.members; cap = w.cap }) c.args.number c.step_in.new.acted _ r refl c.step_in.ensures.kind (c.step_in.ensures.step r here) here (c.every_step_keeps.ensures.step (kind_in w.members) r c.args.packet.now))

@@ -40,7 +40,6 @@ returns-clause-begun c =
         requests = omega (arith, times, kept.clients);
         steps = omega (arith, kept.steps);
         stops = omega (arith, c.in_ok-reserve-3.ensures.ok, c.in_ok-reserve-3.ensures.len);
-        group = c.requires.ready.kind;
         service = kept.service;
       };
       ready = subst (λ (w : World). IsReady w) (sym world) c.requires.ready;

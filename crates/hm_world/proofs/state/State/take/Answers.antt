@@ -21,3 +21,6 @@ returns-in-Stop c = take_quietly c.args.self.now c.stop.new.self c.stop.result c
 
 pub returns-in-Remove : goal.returns-in-Remove
 returns-in-Remove c = take_quietly c.args.self.now c.remove.new.self c.remove.result c.args.event.now _ c.in-Remove.is c.remove.ensures
+
+pub returns-in-Timeout : goal.returns-in-Timeout
+returns-in-Timeout c = take_quietly c.args.self.now c.timeout.new.self c.timeout.result c.args.event.now _ c.in-Timeout.is c.timeout.ensures

@@ -1,7 +1,7 @@
-use crate::event::Event;
-use crate::line::{Line, LineReason, read_line};
 use hm_base::node::GroupKind;
 use hm_base::value::Value;
+use hm_schedule::event::Event;
+use hm_schedule::line::{Line, LineReason, read_line};
 use std::test::Fail;
 
 #[test]

@@ -1,9 +1,9 @@
-use crate::fault::WorldFault;
-use crate::world::World;
 use hm_base::node::GroupKind;
 use hm_packet::outcome::Outcome;
 use hm_packet::text::write_packet;
 use hm_schedule::event::{Event, Setup};
+use hm_world::fault::WorldFault;
+use hm_world::world::World;
 use std::test::Fail;
 
 const ONE: Setup = Setup {
