@@ -4,6 +4,7 @@
 
 ghost use Rattle.std.specs.Prelude.{◌≡◌, ◌≢◌, ◌⊎◌, []};
 ghost use Rattle.std.specs.Io.Buffered.{writer_buffer};
+ghost use Rattle.std.specs.IoError.{error_kind};
 
 use hm_outside::adapters::{ReaderSource, WriterSink};
 use hm_replay::replay::run;
@@ -14,7 +15,8 @@ use std::process::ExitCode;
 
 /// The status for words that can't be had: one of them isn't UTF-8, or memory was wanting.
 fn refusal(error: &Error) -> Status
-    ensures { (result ≡ Status.BadWords) ⊎ (result ≡ Status.NoMemory) }
+    ensures memory { error_kind error.now ≡ ErrorKind.OutOfMemory → result ≡ Status.NoMemory }
+    ensures words { error_kind error.now ≢ ErrorKind.OutOfMemory → result ≡ Status.BadWords }
 {
     if error.kind() == ErrorKind::OutOfMemory {
         Status::NoMemory

@@ -1,7 +1,7 @@
 ghost use Rattle.std.specs.Prelude.{◌≡◌, ℕ, Some, None, drop, length, Ok};
 
-use crate::memory::copy_front;
 use crate::device::{Failed, Sink, Source};
+use crate::memory::copy_front;
 use std::marker::Model;
 
 /// A source that never fails. Contracts see the bytes that are left.

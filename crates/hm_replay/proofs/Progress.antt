@@ -213,16 +213,18 @@ module _ (calls : CallsAddUp) (runs : RunsLawfully) (grow : GrowsByLines) where
       ends_closed closed (status.BadLine number reason) begun (came.cut ++ new) (run_texts.bad_text number (reason_text reason)) left later held mid put f middle lawful
       (read_on left now later (lines_text begun) old new came.cut read came.moves)
       (inr (inr (record { breaks = breaks; closing_is = closing_is }))) written quiet same
-      (λ none whole. (none,
-      record {
-        begun = begun;
-        lawful = lawful;
-        number_is = number_is;
-        reason_is = came.reason_is;
-        breaks = breaks;
-        written = whole;
-        shown = subst (λ (r : LineReason). ShowsFull begun (events_text_of begun ++ run_texts.bad_text number (reason_text r))) (sym came.reason_is) (runs.shown_bad begun number lawful);
-      })) puts
+      (λ none whole. (
+        none,
+        record {
+          begun = begun;
+          lawful = lawful;
+          number_is = number_is;
+          reason_is = came.reason_is;
+          breaks = breaks;
+          written = whole;
+          shown = subst (λ (r : LineReason). ShowsFull begun (events_text_of begun ++ run_texts.bad_text number (reason_text r))) (sym came.reason_is) (runs.shown_bad begun number lawful);
+        },
+      )) puts
 
   -- where the input ends behind a line
   pub ends_whole : {T : Type 0} (closed : Result T NotPut) (w : Held) (opened : ℕ) (new : List ℕ) (left later held mid put : Option (List ℕ)) (f : Faults) (middle : ℕ)
@@ -239,16 +241,18 @@ module _ (calls : CallsAddUp) (runs : RunsLawfully) (grow : GrowsByLines) where
       let same : run_texts.order_text (order w.world.history) ≡ end_text lines = ap (λ (x : World). run_texts.order_text (order x.history)) (ap (λ (x : Slotted). x.world) p.state_is ∙ sym (runs.world lines)) in
       ends_closed closed status.Done lines new (run_texts.order_text (order w.world.history)) left later held mid put f middle p.begun read
       (inr (inl (record { schedule = schedule; none = came.finished.none; end = came.finished.end; closing_is = same }))) p.written quiet before
-      (λ none written. (none,
-      record {
-        schedule = lines;
-        lawful = schedule;
-        read = whole;
-        end = came.finished.end;
-        written = subst (λ (l : List ℕ). Appends held put (events_text_of lines ++ l)) same written;
-        shown = runs.shown_whole lines p.begun;
-        legal = runs.legal lines p.begun;
-      })) puts
+      (λ none written. (
+        none,
+        record {
+          schedule = lines;
+          lawful = schedule;
+          read = whole;
+          end = came.finished.end;
+          written = subst (λ (l : List ℕ). Appends held put (events_text_of lines ++ l)) same written;
+          shown = runs.shown_whole lines p.begun;
+          legal = runs.legal lines p.begun;
+        },
+      )) puts
 
   -- where a line outside the grammar comes next
   pub ends_badly_ahead : {T : Type 0} (closed : Result T NotPut) (w : Held) (opened : ℕ) (new : List ℕ) (left later held mid put : Option (List ℕ)) (f : Faults) (middle number : ℕ) (reason : LineReason)

@@ -1,10 +1,10 @@
 ghost use Rattle.std.specs.Prelude.{◌≡◌};
 ghost use Rattle.hm_replay.specs.Statuses.{ended, status_of};
 
-use hm_wire::malformed::Reason;
 use hm_outside::device::NotPut;
 use hm_schedule::line::LineReason;
 use hm_show::show::Shown;
+use hm_wire::malformed::Reason;
 
 /// How a run ended. Lines and frames are numbered from 1.
 #[derive(Clone, Copy, Debug, PartialEq, Eq)]

@@ -3,10 +3,10 @@ ghost use Rattle.hm_schedule.specs.Orders.{event_in, IsNext, stage_of};
 ghost use Rattle.hm_schedule.specs.declared.line.Line.{Line};
 ghost use Rattle.hm_schedule.specs.Openings.{Says, max_opening};
 
-use crate::stage::{Stage, default_setup, place_of, set_by};
-use hm_base::node::GroupKind;
 use crate::event::Setup;
 use crate::line::Line;
+use crate::stage::{Stage, default_setup, place_of, set_by};
+use hm_base::node::GroupKind;
 
 /// What the opening lines of a schedule say: its setup, how far it has come, and how many lines they are.
 #[derive(Clone, Copy, Debug, PartialEq, Eq)]

@@ -8,12 +8,12 @@ ghost use Rattle.hm_schedule.specs.Lines.{Moves};
 ghost use Rattle.hm_schedule.specs.Stages.{stage_at};
 ghost use Rattle.hm_schedule.specs.Nexts.{ComesOrFails, IsSpelledBy, EventComesOrFails, OpensOrFails};
 
+use crate::event::Event;
+use crate::line::{Line, LineReason, read_line};
 use crate::lines::{Found, LineReader};
 use crate::opening::Opening;
 use crate::stage::Stage;
 use hm_outside::device::{Failed, Source};
-use crate::line::{Line, LineReason, read_line};
-use crate::event::Event;
 
 /// What comes next of a schedule: a line that may come there, the end of the schedule, or bytes that are outside the grammar.
 #[derive(Clone, Copy, Debug, PartialEq, Eq)]

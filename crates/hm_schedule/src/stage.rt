@@ -3,10 +3,10 @@ ghost use Rattle.hm_schedule.specs.Orders as orders;
 ghost use Rattle.hm_schedule.specs.Setups.{setup_of};
 ghost use Rattle.hm_schedule.specs.Stages.{stage_at};
 
-use hm_base::node::GroupKind;
 use crate::event::Setup;
 use crate::limits::MAX_EVENTS;
 use crate::line::Line;
+use hm_base::node::GroupKind;
 
 /// How far a schedule has come.
 #[derive(Clone, Copy, Debug, PartialEq, Eq)]

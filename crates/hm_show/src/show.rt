@@ -11,11 +11,11 @@ ghost use Rattle.hm_show.specs.Steps.{TakesFrames, answer_of};
 use crate::text::{write_closing, write_next_line};
 use crate::verdict::{Verdict, verdict_at_end};
 use hm_base::memory::NoMemory;
-use hm_wire::malformed::Malformed;
 use hm_frame::frame::Unframer;
 use hm_frame::law::{bytes_begin_with_one_frame, pieces_give_the_same_packets};
 use hm_outside::device::{NotPut, Sink, Source, put_all, put_closing, zeros};
 use hm_outside::law::calls_add_up;
+use hm_wire::malformed::Malformed;
 use std::alloc::Global;
 
 /// How many frames are shown at most.

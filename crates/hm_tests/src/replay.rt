@@ -45,12 +45,12 @@ struct Pieces {
 
 /// Whether a piece begins an event's text or the ending, and no other begins in it.
 fn is_whole(piece: &[u8]) -> bool {
-    let begins =
-        piece.starts_with(b"event ") || piece.starts_with(b"order ") || piece.starts_with(b"bad ");
+    let begins = piece.starts_with(b"event ")
+        || piece.starts_with(b"order ")
+        || piece.starts_with(b"bad ");
     begins
-        && !piece
-            .windows(7)
-            .any(|part| part == b"\nevent ".as_slice() || part == b"\norder ".as_slice())
+        && !piece.windows(7).any(|part| part == b"\nevent ".as_slice()
+            || part == b"\norder ".as_slice())
         && !piece.windows(5).any(|part| part == b"\nbad ".as_slice())
 }
 
@@ -89,12 +89,22 @@ fn stops_where_a_device_fails(rt: HostRuntime) -> Result<(), Fail> {
     let words = words(rt.alloc(), &["replay"])?;
     let schedule = WRITE_THEN_READ.schedule;
     let mut text = sink(rt.alloc(), &[2])?;
-    let status = run(rt.alloc(), &words, &mut source(rt.alloc(), schedule, &[])?, &mut text);
+    let status = run(
+        rt.alloc(),
+        &words,
+        &mut source(rt.alloc(), schedule, &[])?,
+        &mut text,
+    );
     assert_eq!(rt; status.code(), 5);
     assert_eq!(rt; text.as_slice(), FIRST_EVENT);
 
     let mut text = sink(rt.alloc(), &[])?;
-    let status = run(rt.alloc(), &words, &mut source(rt.alloc(), schedule, &[1])?, &mut text);
+    let status = run(
+        rt.alloc(),
+        &words,
+        &mut source(rt.alloc(), schedule, &[1])?,
+        &mut text,
+    );
     assert_eq!(rt; status.code(), 4);
     assert_eq!(rt; text.as_slice(), b"".as_slice());
     Ok(())
@@ -143,11 +153,17 @@ fn runs_over_each_device(rt: HostRuntime) -> Result<(), Fail> {
     let bytes = WRITE_THEN_READ.schedule;
     let mut text = WriterSink::new(Vec::new(rt.alloc()));
     let mut source = ReaderSource::new(Trickle { bytes });
-    assert_eq!(rt; run(rt.alloc(), &words, &mut source, &mut text), Status::Done);
+    assert_eq!(rt;
+        run(rt.alloc(), &words, &mut source, &mut text),
+        Status::Done
+    );
     assert_eq!(rt; text.into_inner().as_slice(), WRITE_THEN_READ.text);
 
     let mut source = SureSource::new(bytes.to_vec(rt.alloc())?);
-    assert_eq!(rt; run(rt.alloc(), &words, &mut source, &mut SureSink::new()), Status::Done);
+    assert_eq!(rt;
+        run(rt.alloc(), &words, &mut source, &mut SureSink::new()),
+        Status::Done
+    );
     Ok(())
 }
 

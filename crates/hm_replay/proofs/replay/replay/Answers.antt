@@ -66,7 +66,7 @@ returns-in-Err-next_event g c =
         put = c.in-Ok-put_all.ensures.counted ∙ c.loop-next.invariant.put;
       },
       ends_cut_ahead c.calls_add_up.ensures c.schedules_run_lawfully.ensures c.schedules_grow_by_lines.ensures.grow _ _ _ _ _ _ _ _ _ _ _ _ _ run c.in-Ok-write_event.ensures.world c.in-Ok-write_event.ensures.events
-      (c.deref.ensures.value ∙ c.in-Ok-write_event.ensures.text) c.in-Ok-put_all.ensures.ok failed.0 failed.1,
+          (c.deref.ensures.value ∙ c.in-Ok-write_event.ensures.text) c.in-Ok-put_all.ensures.ok failed.0 failed.1,
     )
 
 pub loop-next-smaller : goal.loop-next-smaller
