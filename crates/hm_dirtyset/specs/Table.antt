@@ -2,6 +2,7 @@
 use Rattle.std.specs.Prelude.{◌≡◌, ◌≢◌, ℕ, ◌+◌, ◌*◌, ◌^◌, ◌==◌, ◌&&◌, not, nat_lt, nat_le, true, if◌then◌else◌, List, [], ◌∷◌, length, slice_get, Option, Some, None, option_map, is_some}
 use Rattle.std.specs.List.{AllByRecursion, list_any}
 use Rattle.hm_base.specs.Slots.{Kept, Slots, live_slots, slot_of, live_stage}
+use Rattle.hm_dirtyset.specs.declared.dirty_set.TheConstants.{MAX_STAGES, MAX_BITS}
 use Rattle.hm_dirtyset.specs.declared.slot.Slot.{Slot}
 use Rattle.hm_dirtyset.specs.declared.dirty_set.OpenFault.{OpenFault}
 use Rattle.hm_dirtyset.specs.declared.dirty_set.OpenFault.TheVariants as fault
@@ -81,6 +82,6 @@ pub record CountsLive (table : Table) (count : ℕ) : Type 0 where
 -- the first argument of an opening that is out of its range, if any is
 abbrev pub open_fault : ℕ → ℕ → Option OpenFault
 open_fault stages bits =
-    if not (nat_le 1 stages && nat_le stages 4) then Some fault.Stages
-    else if not (nat_le bits 12) then Some fault.Bits
+    if not (nat_le 1 stages && nat_le stages MAX_STAGES) then Some fault.Stages
+    else if not (nat_le bits MAX_BITS) then Some fault.Bits
     else None

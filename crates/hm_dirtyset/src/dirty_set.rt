@@ -15,6 +15,12 @@ use std::alloc::{AllocError, Global};
 use std::marker::Model;
 use thiserror::Error;
 
+/// How many stages a dirty table may have.
+pub const MAX_STAGES: u8 = 4;
+
+/// How many bits a place in a stage may have.
+pub const MAX_BITS: u8 = 12;
+
 /// The dirty set: a number for each object, live while it is above the point. It is a hash table of 1 to 4 stages of
 /// 2^0 to 2^12 slots; an object has one slot in each stage. All memory is taken at opening. Contracts see the slots,
 /// the point and the greatest number put.
@@ -91,10 +97,10 @@ impl DirtySet {
         ensures lawful { OnOk result (open_fault stages bits ≡ None) }
         ensures fault { IfErr result (λ f. (f ≡ OpenFault.NoMemory) ⊎ (open_fault stages bits ≡ Some f)) }
     {
-        if stages < 1 || stages > 4 {
+        if stages < 1 || stages > MAX_STAGES {
             return Err(OpenFault::Stages);
         }
-        if bits > 12 {
+        if bits > MAX_BITS {
             return Err(OpenFault::Bits);
         }
         let count = slot_count(bits, stages);

@@ -12,7 +12,9 @@ use Rattle.hm_base.specs.Spellings.{spaced, joined, value_text}
 use Rattle.hm_base.specs.declared.node.GroupKind.TheVariants as kind
 use Rattle.hm_schedule.specs.declared.event.Event.{Event}
 use Rattle.hm_schedule.specs.declared.event.Event.TheVariants as event
+use Rattle.hm_schedule.specs.Limits.{max_stages, max_bits, max_life}
 use Rattle.hm_schedule.specs.LineTexts.{IsLine}
+use Rattle.hm_store.specs.Log.{max_log_len}
 use Rattle.hm_schedule.specs.Names.{keyword_text}
 use Rattle.hm_schedule.specs.Schedules.{IsLawful, IsLawfulEvent, keyword_in, event_fields, field_words, line_words, line_text}
 use Rattle.hm_schedule.specs.declared.keyword.Keyword.{Keyword}
@@ -108,11 +110,11 @@ short_fields (line.Group kind.Chain size) lawful = let few : size ≤ 7 = lawful
 short_fields (line.Group kind.Primary size) lawful = absurd lawful
 short_fields (line.Group kind.Vr size) lawful = absurd lawful
 short_fields (line.Table stages bits) lawful =
-    let few : stages ≤ 4 = lawful.few in
-    let small : bits ≤ 12 = lawful.of_bits in
+    let few : stages ≤ max_stages = lawful.few in
+    let small : bits ≤ max_bits = lawful.of_bits in
     (short_number stages (omega arith), (short_number bits (omega arith), tt))
-short_fields (line.Life life) lawful = let few : life ≤ 4194304 = lawful.few in (short_number life (omega arith), tt)
-short_fields (line.Log cap) lawful = let few : cap ≤ 16384 = lawful.few in (short_number cap (omega arith), tt)
+short_fields (line.Life life) lawful = let few : life ≤ max_life = lawful.few in (short_number life (omega arith), tt)
+short_fields (line.Log cap) lawful = let few : cap ≤ max_log_len = lawful.few in (short_number cap (omega arith), tt)
 short_fields (line.Event e) lawful = short_event e lawful
 
 few_fields : (l : Line) → length (field_words l) ≤ 4

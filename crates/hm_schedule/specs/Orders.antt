@@ -4,9 +4,10 @@ use Rattle.std.specs.Prelude.{◌≡◌, ◌≢◌, ℕ, ◌+◌, ◌<◌, List,
 use Rattle.hm_base.specs.declared.node.GroupKind.{GroupKind}
 use Rattle.hm_base.specs.declared.node.GroupKind.TheVariants.{Chain}
 use Rattle.hm_rules.specs.Events as rule
-use Rattle.hm_schedule.specs.Limits.{max_events}
+use Rattle.hm_schedule.specs.Limits.{max_events, max_life}
 use Rattle.hm_schedule.specs.Setups.{event_of}
 use Rattle.hm_schedule.specs.LineTexts.{ended}
+use Rattle.hm_store.specs.Log.{max_log_len}
 use Rattle.hm_schedule.specs.Schedules.{IsLawful, line_text}
 use Rattle.hm_schedule.specs.declared.line.Line.{Line}
 use Rattle.hm_schedule.specs.declared.line.Line.TheVariants as line
@@ -88,7 +89,7 @@ pub record BreaksOff (begun : List Line) (bytes : List ℕ) : Type 0 where
 
 -- the setup of a group of which no line says more
 abbrev pub default_setup : GroupKind → ℕ → rule.Setup
-default_setup kind size = record { kind = kind; size = size; stages = 3; bits = 10; life = 4194304; cap = 16384 }
+default_setup kind size = record { kind = kind; size = size; stages = 3; bits = 10; life = max_life; cap = max_log_len }
 
 abbrev pub set_by : rule.Setup → Line → rule.Setup
 set_by s (line.Group kind size) = default_setup kind size

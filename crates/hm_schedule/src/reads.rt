@@ -13,6 +13,9 @@ use crate::fields::{next_chain, next_number, next_small, next_value};
 use crate::keyword::Keyword;
 use crate::line::Line;
 use hm_base::node::GroupKind;
+use hm_dirtyset::dirty_set::{MAX_BITS, MAX_STAGES};
+use hm_store::ledger::MAX_LOG_LEN;
+use hm_switch::switch::MAX_LIFE;
 
 /// The line with this keyword whose fields a text spells. None exactly for any other text.
 pub(crate) fn read_fields(keyword: Keyword, fields: &[u8]) -> Option<Line>
@@ -58,8 +61,8 @@ fn read_table(fields: &[u8]) -> Option<Line>
     ensures some { IfSome result (λ l. Reads Keyword.Table fields.now l) }
     ensures only { (stages bits : ℕ) → IsTable stages bits → fields.now ≡ spaced (decimal stages ∷ decimal bits ∷ []) → result ≡ Some (Line.Table stages bits) }
 {
-    let (stages, fields) = next_small(fields, 4)?;
-    let (bits, fields) = next_small(fields, 12)?;
+    let (stages, fields) = next_small(fields, MAX_STAGES)?;
+    let (bits, fields) = next_small(fields, MAX_BITS)?;
     if stages == 0 || !fields.is_empty() {
         return None;
     }
@@ -72,7 +75,7 @@ fn read_life(fields: &[u8]) -> Option<Line>
     ensures only { (life : ℕ) → IsLife life → fields.now ≡ spaced (decimal life ∷ []) → result ≡ Some (Line.Life life) }
 {
     let (life, fields) = next_number(fields)?;
-    if life == 0 || life > 4_194_304 || !fields.is_empty() {
+    if life == 0 || life > MAX_LIFE || !fields.is_empty() {
         return None;
     }
     Some(Line::Life(life))
@@ -84,7 +87,7 @@ fn read_log(fields: &[u8]) -> Option<Line>
     ensures only { (cap : ℕ) → IsCapacity cap → fields.now ≡ spaced (decimal cap ∷ []) → result ≡ Some (Line.Log cap) }
 {
     let (cap, fields) = next_number(fields)?;
-    if cap == 0 || cap > 16_384 || !fields.is_empty() {
+    if cap == 0 || cap > MAX_LOG_LEN || !fields.is_empty() {
         return None;
     }
     Some(Line::Log(cap))

@@ -15,7 +15,7 @@ use hm_base::operation::Answer;
 use hm_base::stamp::Stamp;
 use hm_base::steps::{Steps, Uncounted};
 use hm_base::why::Why;
-use hm_dirtyset::dirty_set::DirtySet;
+use hm_dirtyset::dirty_set::{DirtySet, MAX_BITS, MAX_STAGES};
 use hm_packet::body::{Body, Done, FastRead, NormalRead, Put, Read, Reply, Write};
 use hm_packet::packet::Packet;
 use hm_packet::route::Route;
@@ -300,9 +300,9 @@ fn fault_of(id: u32, stages: u8, bits: u8, life: u32) -> Option<SwitchFault>
 {
     if id == 0 {
         Some(SwitchFault::Id)
-    } else if stages < 1 || stages > 4 {
+    } else if stages < 1 || stages > MAX_STAGES {
         Some(SwitchFault::Stages)
-    } else if bits > 12 {
+    } else if bits > MAX_BITS {
         Some(SwitchFault::Bits)
     } else if life < 1 || life > MAX_LIFE {
         Some(SwitchFault::Life)

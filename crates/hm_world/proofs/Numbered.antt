@@ -85,14 +85,15 @@ refuses_is w (body.Write write) = refl
 refuses_is w other = refl
 
 -- what a step is to the switch and its objects together
-pub record Steps (w : Inside) (new : SwitchState) (items : List ℕ) (m : Message) : Type 0 where
+pub record Steps (w : Inside) (new : SwitchState) (items : List ℕ) (made : Turn) (m : Message) : Type 0 where
   pub switch : abstract_of new items ≡ (switch_step (finds_full (seen_of w) m.body) (seen_of w).switch m).switch
+  pub turn : made ≡ (switch_step (finds_full (seen_of w) m.body) (seen_of w).switch m).turn
   pub slots : slots_of new.dirty ≡ slots_then (slots_of w.switch.dirty) (seen_of w).switch (abstract_of new items)
   pub stands : StandsFor new (abstract_of new items)
   pub few : length items ≤ new.handled
 
 pub steps : (w : Inside) (new : SwitchState) (items : List ℕ) (made : Turn) (m : Message) → length w.numbered.items ≤ w.switch.handled
-    → TurnsTo w.switch new made (seen_of w).switch (switch_step (refuses w.switch m) (seen_of w).switch m) → items ≡ w.numbered.items ++ put_objects made → Steps w new items m
+    → TurnsTo w.switch new made (seen_of w).switch (switch_step (refuses w.switch m) (seen_of w).switch m) → items ≡ w.numbered.items ++ put_objects made → Steps w new items made m
 steps w new items made m few turns pushed =
     let refuse : Bool = refuses w.switch m in
     let old : AbstractSwitch = (seen_of w).switch in
@@ -101,6 +102,7 @@ steps w new items made m few turns pushed =
     let whole : abstract_of new items ≡ t.switch = abstract_is new t.switch items turns.switch numbered in
     record {
       switch = whole ∙ ap (λ (b : Bool). (switch_step b old m).switch) (refuses_is w m.body);
+      turn = turns.turn ∙ ap (λ (b : Bool). (switch_step b old m).turn) (refuses_is w m.body);
       slots = turns.slots ∙ ap (λ (q : AbstractSwitch). slots_then (slots_of w.switch.dirty) old q) (sym whole);
       stands = subst (λ (q : AbstractSwitch). StandsFor new q) (sym whole) turns.switch;
       few = subst (λ (q : AbstractSwitch). length q.numbered ≤ q.handled) (sym whole) (few_after refuse old m few);

@@ -1,11 +1,18 @@
 -- What contracts see of a group, and a step of one of its replicas.
-use Rattle.std.specs.Prelude.{◌≡◌, ◌≢◌, ℕ, List, slice_get, slice_set, Some}
+use Rattle.std.specs.Prelude.{◌≡◌, ◌≢◌, ℕ, Bool, true, false, List, slice_get, slice_set, Some}
 use Rattle.hm_base.specs.declared.node.GroupKind.{GroupKind}
+use Rattle.hm_base.specs.declared.node.GroupKind.TheVariants as kind
 use Rattle.hm_packet.specs.declared.acted.Acted.{Acted}
 use Rattle.hm_packet.specs.declared.acted.Did.TheVariants.{Done}
 use Rattle.hm_replica.specs.Given.{Gives}
 use Rattle.hm_rules.specs.Replica.{Replica}
 use Rattle.hm_rules.specs.ReplicaSteps.{Stepped}
+
+-- the protocols that are built so far
+abbrev pub is_built : GroupKind → Bool
+is_built kind.Chain = true
+is_built kind.Primary = false
+is_built kind.Vr = false
 
 -- the protocol, how many entries a log may have, and the replicas by number
 pub record Grouped : Type 0 where

@@ -3,8 +3,9 @@ ghost use Rattle.hm_world.specs.Settled as settled;
 ghost use Rattle.hm_world.specs.Setups as setups;
 ghost use Rattle.hm_world.specs.declared.fault.WorldFault.TheVariants as fault;
 
+use crate::group::is_built;
 use hm_base::memory::NoMemory;
-use hm_base::node::GroupKind;
+use hm_dirtyset::dirty_set::{MAX_BITS, MAX_STAGES};
 use hm_packet::outcome::Bar;
 use hm_reconfig::fault::RemoveFault;
 use hm_schedule::event::Setup;
@@ -52,9 +53,9 @@ pub(crate) fn fault_of(setup: &Setup) -> Option<WorldFault>
 {
     if !is_built(setup.kind) || setup.size < 1 || setup.size > 7 {
         Some(WorldFault::Group)
-    } else if setup.stages < 1 || setup.stages > 4 {
+    } else if setup.stages < 1 || setup.stages > MAX_STAGES {
         Some(WorldFault::Stages)
-    } else if setup.bits > 12 {
+    } else if setup.bits > MAX_BITS {
         Some(WorldFault::Bits)
     } else if setup.life < 1 || setup.life > MAX_LIFE {
         Some(WorldFault::Life)
@@ -63,13 +64,6 @@ pub(crate) fn fault_of(setup: &Setup) -> Option<WorldFault>
     } else {
         None
     }
-}
-
-/// Whether groups of this protocol can be run.
-fn is_built(kind: GroupKind) -> bool
-    ensures { result ≡ setups.is_built kind }
-{
-    matches!(kind, GroupKind::Chain)
 }
 
 /// The bar of a removal that the service refuses.

@@ -4,9 +4,8 @@ ghost use Rattle.hm_rules.specs.Replica.{Replica, opened};
 ghost use Rattle.hm_rules.specs.Service.{is_fixed};
 ghost use Rattle.hm_rules.specs.Viewstamped.{vr_timeout};
 ghost use Rattle.hm_store.specs.Log.{max_log_len};
-ghost use Rattle.hm_world.specs.Grouped.{GroupSteps, StepsAt};
+ghost use Rattle.hm_world.specs.Grouped.{is_built, GroupSteps, StepsAt};
 ghost use Rattle.hm_world.specs.GroupFields.{kind_in, replicas_in};
-ghost use Rattle.hm_world.specs.Setups.{is_built};
 
 use hm_base::memory::NoMemory;
 use hm_base::node::GroupKind;
@@ -56,11 +55,10 @@ impl Group {
         requires bounded { cap ≤ max_log_len }
         ensures { IfOk result (λ g. g ≡ record { kind = kind; cap = cap; replicas = map (λ me. opened me members.now cap) members.now }) }
     {
-        let members = match kind {
-            GroupKind::Chain => Members::Chain(open_chains(alloc, cap, members)?),
-            GroupKind::Primary | GroupKind::Vr => unreachable!(),
-        };
-        Ok(Group { members, cap })
+        Ok(Group {
+            members: open_members(alloc, kind, cap, members)?,
+            cap,
+        })
     }
 
     /// How many replicas there are.
@@ -126,6 +124,31 @@ impl Group {
     {
         every_step_keeps();
         timeout_in(&mut self.members, number, acted);
+    }
+}
+
+/// Whether groups of this protocol can be run.
+pub(crate) fn is_built(kind: GroupKind) -> bool
+    ensures { result ≡ is_built kind }
+{
+    matches!(kind, GroupKind::Chain)
+}
+
+/// The members before their first packets.
+fn open_members(
+    alloc: Global,
+    kind: GroupKind,
+    cap: u32,
+    members: &hm_base::members::Members,
+) -> Result<Members, NoMemory>
+    requires built { is_built kind ≡ true }
+    requires bounded { cap ≤ max_log_len }
+    ensures kind { IfOk result (λ ms. kind_in ms ≡ kind) }
+    ensures replicas { IfOk result (λ ms. replicas_in ms ≡ map (λ me. opened me members.now cap) members.now) }
+{
+    match kind {
+        GroupKind::Chain => Ok(Members::Chain(open_chains(alloc, cap, members)?)),
+        GroupKind::Primary | GroupKind::Vr => unreachable!(),
     }
 }
 

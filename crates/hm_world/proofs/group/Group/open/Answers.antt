@@ -7,5 +7,5 @@ use Rattle.hm_world.proofs.group.Group.open.Goals as goal
 pub invariant_of-result : goal.invariant_of-result
 invariant_of-result c = record {
   bounded = c.requires.bounded;
-  caps = subst (λ (rs : List Replica). All (λ (r : Replica). r.cap ≡ c.args.cap) rs) (sym c.in_ok-open_chains.ensures) (all_opened c.args.cap c.args.members.now c.args.members.now);
+  caps = subst (λ (rs : List Replica). All (λ (r : Replica). r.cap ≡ c.args.cap) rs) (sym c.in_ok-open_members.ensures.replicas) (all_opened c.args.cap c.args.members.now c.args.members.now);
 }

@@ -19,6 +19,12 @@ returns-clause-switch c =
     let s = steps w c.step-turn.new.self c.note_put.new.numbered.items c.step-turn.result c.args.packet.now c.self.invariant.few (c.step-turn.ensures (seen_of w).switch c.self.invariant.stands) c.note_put.ensures.items in
     s.switch ∙ ap (λ (x : Seen). (switch_step (finds_full x c.args.packet.now.body) x.switch c.args.packet.now).switch) c.self.view_is
 
+pub returns-clause-turn : goal.returns-clause-turn
+returns-clause-turn c =
+    let w = c.self.inside in
+    let s = steps w c.step-turn.new.self c.note_put.new.numbered.items c.step-turn.result c.args.packet.now c.self.invariant.few (c.step-turn.ensures (seen_of w).switch c.self.invariant.stands) c.note_put.ensures.items in
+    s.turn ∙ ap (λ (x : Seen). (switch_step (finds_full x c.args.packet.now.body) x.switch c.args.packet.now).turn) c.self.view_is
+
 pub returns-clause-slots : goal.returns-clause-slots
 returns-clause-slots c =
     let w = c.self.inside in
