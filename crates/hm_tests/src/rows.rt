@@ -4,6 +4,7 @@ use hm_replay::status::Status;
 use hm_schedule::line::LineReason;
 
 /// A schedule, how its run ends, and the text of its run.
+#[derive(Clone, Copy)]
 pub struct Row {
     pub schedule: &'static [u8],
     pub status: Status,

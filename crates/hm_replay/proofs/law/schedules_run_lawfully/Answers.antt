@@ -1,4 +1,4 @@
-use Rattle.std.proofs.Common.{◌≡◌, ◌≢◌, ◌≤◌, ◌<◌, ◌^◌, ℕ, List, length, arith}
+use Rattle.std.proofs.Common.{◌≡◌, ◌≢◌, ◌≤◌, ◌<◌, ◌^◌, ℕ, List, length, sym, ◌∙◌, arith}
 use Rattle.std.specs.Prelude.{All}
 use Rattle.std.proofs.lemmas.List.Elements.{All-from_recursion}
 use Rattle.hm_base.specs.declared.node.GroupKind.TheVariants as kind
@@ -16,10 +16,13 @@ fits : (n : ℕ) → n ≤ max_events → n < 2 ^ 32
 fits n few = omega arith
 
 word_goes_on : All (λ (byte : ℕ). byte ≢ 10) (reason_text Word)
-word_goes_on = All-from_recursion (λ (byte : ℕ). byte ≢ 10) (reason_text Word) ((λ same. omega arith), (λ same. omega arith), (λ same. omega arith), (λ same. omega arith), tt)
+word_goes_on = All-from_recursion (λ (byte : ℕ). byte ≢ 10) (reason_text Word) (λ same. omega arith, (λ same. omega arith, (λ same. omega arith, (λ same. omega arith, tt))))
+
+chain_is_vr : kind.Chain ≡ kind.Vr → ⊥
+chain_is_vr same = cc
 
 chain_forms : (setup : Setup) → setup.kind ≡ kind.Chain → CanForm setup
-chain_forms setup chain other = cc
+chain_forms setup chain = λ other. absurd (chain_is_vr (sym chain ∙ other))
 
 pub returns : goal.returns
 returns c = record {

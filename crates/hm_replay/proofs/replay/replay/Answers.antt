@@ -55,7 +55,7 @@ returns-in-Bad g c =
     let events : c.events.result ≡ c.loop-next.world.events = c.events.ensures in
     rw c.ended-in-Bad.ensures
     (ends_badly_ahead c.calls_add_up.ensures c.schedules_run_lawfully.ensures c.schedules_grow_by_lines.ensures.grow _ _ c.in-Ok-read_opening.opened.0.lines _ _ _ _ _ _ _ _ _ _ run c.loop-next.invariant.read c.loop-next.invariant.put (omega arith)
-    c.refuse.ensures)
+    c.refuse-closed.ensures)
 
 pub returns-in-Err-next_event : goal.returns-in-Err-next_event
 returns-in-Err-next_event g c =
