@@ -1,7 +1,12 @@
-//! `hm replay`: reads a schedule from standard input, and writes the text of its run to standard output.
+//! `hm replay` reads a schedule from standard input, and writes the text of its run to standard output. `hm show` reads frames, and
+//! writes each packet's text.
 #![tactic(auto)]
 
-use hm_frame::adapters::{ReaderSource, WriterSink};
+ghost use Rattle.std.specs.Prelude.{◌≡◌, ◌≢◌, ◌⊎◌, []};
+ghost use Rattle.std.specs.Io.Buffered.{writer_buffer};
+ghost use Rattle.std.specs.IoError.{error_kind};
+
+use hm_outside::adapters::{ReaderSource, WriterSink};
 use hm_replay::replay::run;
 use hm_replay::status::Status;
 use std::env;
@@ -9,11 +14,25 @@ use std::io::{BufWriter, Error, ErrorKind, Write};
 use std::process::ExitCode;
 
 /// The status for words that can't be had: one of them isn't UTF-8, or memory was wanting.
-fn refusal(error: &Error) -> Status {
+fn refusal(error: &Error) -> Status
+    ensures memory { error_kind error.now ≡ ErrorKind.OutOfMemory → result ≡ Status.NoMemory }
+    ensures words { error_kind error.now ≢ ErrorKind.OutOfMemory → result ≡ Status.BadWords }
+{
     if error.kind() == ErrorKind::OutOfMemory {
         Status::NoMemory
     } else {
         Status::BadWords
+    }
+}
+
+/// Writes what is left of the output. Where that fails, the sink did.
+fn flushed<W: Write>(output: &mut BufWriter<W>, status: Status) -> Status
+    ensures status { (result ≡ status) ⊎ (result ≡ Status.WriteFault) }
+    ensures written { result ≢ Status.WriteFault → writer_buffer output.new ≡ [] }
+{
+    match output.flush() {
+        Ok(()) => status,
+        Err(_) => Status::WriteFault,
     }
 }
 
@@ -33,10 +52,7 @@ fn status(rt: &HostRuntime) -> Status {
     let mut source = ReaderSource::new(rt.stdin());
     let mut sink = WriterSink::new(output);
     let status = run(alloc, &words, &mut source, &mut sink);
-    match sink.into_inner().flush() {
-        Ok(()) => status,
-        Err(_) => Status::WriteFault,
-    }
+    flushed(&mut sink.into_inner(), status)
 }
 
 fn main(rt: HostRuntime) -> ExitCode {

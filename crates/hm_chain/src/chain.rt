@@ -26,6 +26,7 @@ use hm_packet::packet::Packet;
 use hm_replica::acts::{ignore, log_full, push, send_none, send_one};
 use hm_replica::answers::push_answers;
 use hm_replica::group::{first_member, is_member, last_member};
+use hm_replica::law::{refused_packets_are_ignored, steps_give_their_parts};
 use hm_replica::packets::{done_packet, entry_of, packet_from, reply_packet};
 use hm_replica::senders::{number, refusal};
 use hm_shim::shim::{Local, Shim, reply_to};
@@ -87,6 +88,8 @@ impl Chain {
     pub fn step(&mut self, packet: &Packet, acted: &mut Acted)
         ensures { Gives self.new acted.new (rules.chain_step self.old packet.now) }
     {
+        refused_packets_are_ignored();
+        steps_give_their_parts();
         match refusal(self.me, takes(&packet.body), packet) {
             Some(why) => ignore(acted, why),
             None => self.row(number(packet.src), &packet.body, acted),

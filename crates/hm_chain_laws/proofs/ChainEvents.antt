@@ -69,7 +69,7 @@ module _ (laws : StepLaws) (w : World) (core : Core w) (chain : ChainHolds w) wh
     grown : LogsGrow w.replicas replicas
     grown = record {
       from = λ i r at. elim (set_at w.replicas n i s.replica r at) [
-        | inl here ↦ (x.replica, subst (λ (j : ℕ). At w.replicas j x.replica) here.0 x.there, subst (λ (y : Replica). IsPrefix x.replica.log y.log) here.1 given.kept.log)
+        | inl here ↦ (x.replica, subst (λ (j : ℕ). At w.replicas j x.replica) here.0 x.there, subst (λ (y : Replica). IsPrefix x.replica.log y.log) here.1 given.kept)
         | inr other ↦ (r, other.1, prefix_same r.log)
       ];
     }

@@ -15,8 +15,6 @@ use Rattle.hm_base.proofs.ListLaws.{prefix_same, prefix_append, prefix_then, pre
 use Rattle.hm_packet.specs.Messages.{Message}
 use Rattle.hm_order.specs.declared.mark.Mark.{Mark}
 use Rattle.hm_order.specs.Marks.{At}
-use Rattle.hm_due_law.specs.Tidy.{IsTidy}
-use Rattle.hm_due_law.specs.Agreed.{Agree}
 use Rattle.hm_rules.specs.Senders.{replica_sends}
 use Rattle.hm_rules.specs.Replica.{Replica, len, acked_by}
 use Rattle.hm_rules.specs.ReplicaSteps.{Stepped, sends, sends_first, page_to, max_answered, answer_act, answer_entry, answers, declares}
@@ -28,7 +26,6 @@ use Rattle.hm_core_laws.specs.Packets.{Holds}
 use Rattle.hm_core_laws.specs.Core.{ListHolds, Core}
 use Rattle.hm_core_laws.specs.Owed.{declared_by, StepSound}
 use Rattle.hm_core_laws.specs.Later.{StaysTrue}
-use Rattle.hm_chain_laws.specs.Kept.{KeepsLog}
 use Rattle.hm_chain_laws.proofs.Laws.{StepLaws}
 use Rattle.hm_core_laws.specs.Epochs.{HasMember}
 use Rattle.hm_chain_laws.specs.Chained.{MemberHolds, IsPageOf, Fits, ChainHolds}
@@ -58,7 +55,8 @@ pub record Acts (w : World) (n : ℕ) (r : Replica) : Type 0 where
 -- what a step of it gives
 pub record MemberStep (w : World) (n : ℕ) (r : Replica) (a : Acts w n r) (s : Stepped) : Type 0 where
   pub sound : StepSound w n s
-  pub kept : KeepsLog r s.replica
+  -- its log only grows
+  pub kept : IsPrefix r.log s.replica.log
   pub holds : MemberHolds a.chain.epochs w.replicas n s.replica
   pub packets : All (Fits a.chain.epochs (slice_set w.replicas n s.replica)) s.outs
   pub tail : is_tail s.replica ≡ true → s.replica.log ≡ declared_by w s
@@ -67,7 +65,7 @@ pub record MemberStep (w : World) (n : ℕ) (r : Replica) (a : Acts w n r) (s : 
 
 -- the replica in the middle of a step, with more entries in its log, in another epoch, or with other acknowledgements
 pub record Becomes (w : World) (n : ℕ) (r : Replica) (a : Acts w n r) (new : Replica) : Type 0 where
-  pub kept : KeepsLog r new
+  pub kept : IsPrefix r.log new.log
   pub list : ListHolds w.history w.net new.log
   pub known : new.known ≡ r.known
   pub holds : MemberHolds a.chain.epochs w.replicas n new
@@ -141,15 +139,11 @@ module _ (w : World) (n : ℕ) (r : Replica) (a : Acts w n r) where
     applied_still : IsPrefix (take new.known new.log) w.declared
     applied_still =
         let within : r.known ≤ length r.log = (a.chain.members n r a.there).known in
-        let same : take new.known new.log ≡ take r.known r.log = ap (λ (k : ℕ). take k new.log) b.known ∙ prefix-take r.known b.kept.log within in
+        let same : take new.known new.log ≡ take r.known r.log = ap (λ (k : ℕ). take k new.log) b.known ∙ prefix-take r.known b.kept within in
         subst (λ (l : List Entry). IsPrefix l w.declared) (sym same) (a.core.replicas n r a.there).applied
 
     none_staged : ListHolds w.history w.net (held [] new.staged)
     none_staged = subst (λ (o : Option (List Entry)). ListHolds w.history w.net (held [] o)) (sym b.holds.unstaged) (record { sourced = All-nil (IsSourced w.history w.net); tidy = record { stamps = tt; requests = tt } })
-
-    undeclared : (log : List Entry) → declared_after w.declared log 0 ≡ w.declared
-    undeclared log = cond_both (nat_lt (length w.declared) 0) (take 0 log) w.declared (λ (l : List Entry). l ≡ w.declared)
-        (λ t. absurd (let below : length w.declared < 0 = ltb-true (length w.declared) 0 t in omega arith)) (λ t. refl)
 
     pub silently : (outs : List Message) → (is_tail new ≡ true → new.log ≡ w.declared) → Sends w n r a new outs → MemberStep w n r a (sends new outs)
     silently outs tail x = record {
@@ -157,8 +151,8 @@ module _ (w : World) (n : ℕ) (r : Replica) (a : Acts w n r) where
       kept = b.kept;
       holds = b.holds;
       packets = x.packets;
-      tail = λ t. tail t ∙ sym (undeclared new.log);
-      rests = inl (undeclared new.log);
+      tail = λ t. tail t ∙ sym (a.laws.rests w new outs);
+      rests = inl (a.laws.rests w new outs);
     }
 
     -- ---- the tail declares its log
@@ -168,7 +162,7 @@ module _ (w : World) (n : ℕ) (r : Replica) (a : Acts w n r) where
       step = sends_first front (declares new from (len new))
 
       longer : IsPrefix w.declared new.log
-      longer = prefix_then (a.chain.prefix n r a.there a.live) b.kept.log
+      longer = prefix_then (a.chain.prefix n r a.there a.live) b.kept
 
       all_declared : declared_by w step ≡ new.log
       unfolding step
@@ -197,7 +191,7 @@ module _ (w : World) (n : ℕ) (r : Replica) (a : Acts w n r) where
             (All-append (StaysTrue w (declared_by w step)) front (declares new from (len new)).outs
             (λ k d l. λ history declared net later p. free.holds history declared net k d l)
             (λ k d l. λ history declared net later p. a.laws.answers_true history declared net new from (len new) later.agree (prefix_then applied_all p) k d l));
-        kept = record { me = b.kept.me; cap = b.kept.cap; unstaged = b.kept.unstaged; log = b.kept.log };
+        kept = b.kept;
         holds = record { me = b.holds.me; unstaged = b.holds.unstaged; known = omega arith; writes = b.holds.writes; epoch = b.holds.epoch; nested = b.holds.nested };
         packets = All-append (Fits a.chain.epochs (slice_set w.replicas n (record new { known = len new }))) front (declares new from (len new)).outs (free.packets a.chain.epochs (slice_set w.replicas n (record new { known = len new }))) answers_fit;
         tail = λ t. sym all_declared;

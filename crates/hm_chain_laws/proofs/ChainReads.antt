@@ -33,7 +33,6 @@ use Rattle.hm_rules.specs.World.{World}
 use Rattle.hm_core_laws.specs.Sourced.{IsSourced}
 use Rattle.hm_core_laws.specs.Packets.{op, WasAsked, WasAskedToWrite}
 use Rattle.hm_chain_laws.specs.Chained.{MemberHolds}
-use Rattle.hm_chain_laws.proofs.LogGrowth.{kept_same}
 use Rattle.hm_chain_laws.proofs.ChainParts.{Acts, MemberStep, Becomes, Sends, sends_none, sends_one, passing, silently}
 
 module _ (w : World) (n : ℕ) (r : Replica) (a : Acts w n r) where
@@ -47,7 +46,7 @@ module _ (w : World) (n : ℕ) (r : Replica) (a : Acts w n r) where
   mine = a.chain.members n r a.there
 
   pub unchanged : Becomes w n r a r
-  unchanged = record { kept = kept_same r mine.unstaged; list = (a.core.replicas n r a.there).log; known = refl; holds = mine }
+  unchanged = record { kept = prefix_same r.log; list = (a.core.replicas n r a.there).log; known = refl; holds = mine }
 
   -- the tail's log is the declared list
   pub whole : is_tail r ≡ true → r.log ≡ w.declared
@@ -137,7 +136,7 @@ module _ (w : World) (n : ℕ) (r : Replica) (a : Acts w n r) where
       let told : Message = to r node.Config (body.Refused (record { switch = refuse.switch })) in
       let after : Replica = record r { accepted = max r.accepted (refuse.switch + 1) } in
       let becomes : Becomes w n r a after = record {
-        kept = record { me = refl; cap = refl; unstaged = mine.unstaged; log = prefix_same r.log };
+        kept = prefix_same r.log;
         list = unchanged.list;
         known = refl;
         holds = record { me = mine.me; unstaged = mine.unstaged; known = mine.known; writes = mine.writes; epoch = mine.epoch; nested = mine.nested };

@@ -12,13 +12,11 @@ use Rattle.hm_base.specs.declared.node.Node.{Node}
 use Rattle.hm_base.specs.declared.node.Node.TheVariants as node
 use Rattle.hm_base.specs.declared.verdict.Admit.{Admit}
 use Rattle.hm_base.specs.declared.verdict.Admit.TheVariants as admit
-use Rattle.hm_base.specs.declared.verdict.Verdict.TheVariants as verdict
 use Rattle.hm_base.specs.declared.why.Why.TheVariants as why
 use Rattle.hm_base.specs.Lists.{IsPrefix}
-use Rattle.hm_base.specs.Logs.{is_write, end_stamp, read_ahead}
-use Rattle.hm_base.specs.Stamps.{◌≺◌}
+use Rattle.hm_base.specs.Logs.{is_write, read_ahead}
 use Rattle.hm_base.specs.Taking.{Took, Taken, extended, grown, take_page}
-use Rattle.hm_base.specs.Verdicts.{judge, admission}
+use Rattle.hm_base.specs.Verdicts.{admission}
 use Rattle.hm_base.proofs.ListLaws.{prefix_same, prefix_append, prefix-length, prefix_equal, taken_page, there_is, All-prefix}
 use Rattle.hm_packet.specs.declared.acted.Did.TheVariants as did
 use Rattle.hm_packet.specs.declared.body.Body.{Body}
@@ -91,7 +89,7 @@ module _ (w : World) (n : ℕ) (r : Replica) (a : Acts w n r) where
     appended tidy =
         let after : Replica = record r { log = r.log ++ entry_of put ∷ [] } in
         let becomes : Becomes w n r a after = record {
-          kept = record { me = refl; cap = refl; unstaged = own.unstaged; log = prefix_append r.log (entry_of put ∷ []) };
+          kept = prefix_append r.log (entry_of put ∷ []);
           list = record {
             sourced = All-push (IsSourced w.history w.net) r.log (entry_of put) held.log.sourced source;
             tidy = tidy;
@@ -146,7 +144,7 @@ module _ (w : World) (n : ℕ) (r : Replica) (a : Acts w n r) where
 
     becomes : Becomes w n r a after
     becomes = record {
-      kept = record { me = refl; cap = refl; unstaged = refl; log = prefix_append r.log (drop (length r.log - feed.first) feed.entries) };
+      kept = prefix_append r.log (drop (length r.log - feed.first) feed.entries);
       list = a.laws.front w.history w.net longer sender.0.log along_sender (a.core.replicas from sender.0 sender.1).log;
       known = refl;
       holds = record {
@@ -194,7 +192,7 @@ module _ (w : World) (n : ℕ) (r : Replica) (a : Acts w n r) where
   feed_ack_row from ack =
       let after : Replica = with_acked r from ack.len in
       let becomes : Becomes w n r a after = record {
-        kept = record { me = refl; cap = refl; unstaged = own.unstaged; log = prefix_same r.log };
+        kept = prefix_same r.log;
         list = held.log;
         known = refl;
         holds = record { me = own.me; unstaged = own.unstaged; known = own.known; writes = own.writes; epoch = own.epoch; nested = own.nested };
@@ -215,7 +213,7 @@ module _ (w : World) (n : ℕ) (r : Replica) (a : Acts w n r) where
     -- its members were members of the epoch before
     moves : r.view < config.view → Becomes w n r a moved
     moves later = record {
-      kept = record { me = refl; cap = refl; unstaged = own.unstaged; log = prefix_same r.log };
+      kept = prefix_same r.log;
       list = held.log;
       known = refl;
       holds = record {

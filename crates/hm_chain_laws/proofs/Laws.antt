@@ -1,6 +1,6 @@
 -- The laws that the proofs of a chain rest on, as the law functions hand them in.
 use Rattle.hm_due_law.specs.Laws.{WholeListAnswerIsDue, AnswerAheadIsDue, AdmittedWriteKeepsTidy}
-use Rattle.hm_core_laws.specs.Laws.{QuietStepIsSound, DeclaringStepIsSound, DeclaredAnswersAreSent, DeclaredAnswersAreTrue, SourcedListStaysSourced, FrontHolds, QuietEventKeepsEpochs, StepKeepsEpochs, RemovalBeginsEpoch}
+use Rattle.hm_core_laws.specs.Laws.{QuietStepIsSound, QuietStepDeclaresNothing, DeclaringStepIsSound, DeclaredAnswersAreSent, DeclaredAnswersAreTrue, SourcedListStaysSourced, FrontHolds, QuietEventKeepsEpochs, StepKeepsEpochs, RemovalBeginsEpoch}
 
 -- for each step
 pub record StepLaws : Type 0 where
@@ -8,6 +8,7 @@ pub record StepLaws : Type 0 where
   pub ahead : AnswerAheadIsDue
   pub write_tidy : AdmittedWriteKeepsTidy
   pub quiet : QuietStepIsSound
+  pub rests : QuietStepDeclaresNothing
   pub declaring : DeclaringStepIsSound
   pub answers_sent : DeclaredAnswersAreSent
   pub answers_true : DeclaredAnswersAreTrue

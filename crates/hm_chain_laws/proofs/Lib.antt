@@ -1,5 +1,4 @@
 mod Laws
-mod LogGrowth
 mod ChainParts
 mod ChainReads
 mod ChainRows
@@ -7,4 +6,3 @@ mod ChainLater
 mod ChainGroups
 mod ChainEvents
 mod ChainOpens
-pub mod ChainRuns

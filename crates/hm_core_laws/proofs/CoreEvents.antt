@@ -1,5 +1,5 @@
 -- Each event keeps the core facts, where the steps of replicas are as a protocol owes them.
-use Rattle.std.proofs.Common.{◌≡◌, ℕ, ◌+◌, ◌-◌, ◌<◌, ◌≤◌, Bool, true, false, List, [], ◌∷◌, ◌++◌, length, Option, Some, None, refl, sym, ap, subst, ◌∙◌, inl, inr}
+use Rattle.std.proofs.Common.{◌≡◌, ℕ, ◌+◌, ◌-◌, ◌≤◌, Bool, true, false, List, [], ◌∷◌, ◌++◌, length, Option, Some, None, refl, sym, ap, subst, ◌∙◌, inl, inr}
 use Rattle.std.specs.Prelude.{map, filter, not, ◌&&◌, ◌==◌, if◌then◌else◌, slice_get, is_some, All}
 use Rattle.std.specs.List.{list_any}
 use Rattle.std.proofs.lemmas.Bool.{cases_lt, cond_both, not-false, eqb-true}
@@ -29,7 +29,7 @@ use Rattle.hm_order.specs.declared.mark.Mark.{Mark}
 use Rattle.hm_order.specs.declared.mark.Mark.TheVariants as mark
 use Rattle.hm_order.specs.declared.mark.Want.{Want}
 use Rattle.hm_order.specs.declared.mark.Want.TheVariants as want
-use Rattle.hm_order.specs.Marks.{At, invoked_at, replied_at}
+use Rattle.hm_order.specs.Marks.{At, replied_at}
 use Rattle.hm_order.proofs.Positions.{reply_found}
 use Rattle.hm_due_law.specs.Answers.{IsDueNow}
 use Rattle.hm_due_law.specs.Agreed.{Agree}

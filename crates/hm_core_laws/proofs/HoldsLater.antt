@@ -1,17 +1,17 @@
 -- What is true of a packet, a switch or a list stays true as history, declared list and net grow.
-use Rattle.std.proofs.Common.{◌≡◌, ℕ, ◌<◌, List, length, subst, sym, arith}
+use Rattle.std.proofs.Common.{◌≡◌, ℕ, List, subst, sym}
 use Rattle.std.specs.Prelude.{map, All}
 use Rattle.std.proofs.lemmas.List.Elements.{All-weaker}
 use Rattle.hm_base.specs.declared.entry.Entry.{Entry}
 use Rattle.hm_base.specs.declared.node.Node.{Node}
 use Rattle.hm_base.specs.Lists.{IsPrefix}
-use Rattle.hm_base.proofs.ListLaws.{prefix_at, prefix-length, prefix_then}
+use Rattle.hm_base.proofs.ListLaws.{prefix_at, prefix_then}
 use Rattle.hm_packet.specs.declared.body.Body.{Body}
 use Rattle.hm_packet.specs.declared.body.Body.TheVariants as body
 use Rattle.hm_packet.specs.Messages.{Message}
 use Rattle.hm_order.specs.declared.mark.Mark.{Mark}
 use Rattle.hm_order.specs.declared.mark.Want.TheVariants as want
-use Rattle.hm_order.specs.Marks.{At, invoked_at}
+use Rattle.hm_order.specs.Marks.{At}
 use Rattle.hm_order.specs.Legal.{IsWellFormed}
 use Rattle.hm_due_law.specs.Tidy.{HasWrite}
 use Rattle.hm_rules.specs.Senders.{number}

@@ -1,19 +1,17 @@
 -- Parts of steps that the protocols share.
-use Rattle.std.proofs.Common.{◌≡◌, ℕ, ◌-◌, ◌<◌, true, List, ◌++◌, length, take, drop, get_or, refl, ap, arith}
+use Rattle.std.proofs.Common.{◌≡◌, ℕ, ◌-◌, ◌<◌, true, List, ◌++◌, length, take, drop, refl, ap, arith}
 use Rattle.std.specs.Prelude.{max, nat_lt, IsTrue, All}
 use Rattle.std.proofs.lemmas.Bool.{cond_both, ltb-true}
 use Rattle.std.proofs.lemmas.List.Elements.{All-drop, All-map}
-use Rattle.std.proofs.lemmas.Option.{slice_get-get_or}
 use Rattle.hm_base.specs.declared.entry.Entry.{Entry}
 use Rattle.hm_base.specs.declared.entry.Act.{Act}
 use Rattle.hm_base.specs.declared.entry.Act.TheVariants as act
 use Rattle.hm_base.specs.Lists.{IsPrefix}
 use Rattle.hm_base.specs.Logs.{is_put, is_write}
-use Rattle.hm_base.proofs.ListLaws.{prefix_same, prefix_append, prefix_then, prefix_at, each_at, each_from_at}
+use Rattle.hm_base.proofs.ListLaws.{prefix_same, prefix_append, prefix_then, prefix_at, each_from_at}
 use Rattle.hm_packet.specs.Messages.{Message}
 use Rattle.hm_order.specs.declared.mark.Mark.{Mark}
-use Rattle.hm_order.specs.Marks.{At, op_of}
-use Rattle.hm_due_law.specs.Declared.{wanted, WasInvoked}
+use Rattle.hm_order.specs.Marks.{At}
 use Rattle.hm_due_law.specs.Agreed.{Agree}
 use Rattle.hm_due_law.specs.Laws.{LookAnswerIsDue}
 use Rattle.hm_rules.specs.Senders.{replica_sends}

@@ -1,11 +1,7 @@
 -- Switches by number, and membership tests.
-use Rattle.std.proofs.Common.{◌≡◌, ℕ, zero, suc, ◌-◌, ◌<◌, ◌≤◌, ◌⊎◌, Bool, true, false, List, [], ◌∷◌, ◌++◌, length, map, drop, Option, Some, None, refl, sym, ap, subst, ◌∙◌, arith, inl, inr}
-use Rattle.std.specs.Prelude.{slice_get, slice_set, nat_eq, fold, if◌then◌else◌, All}
-use Rattle.std.proofs.lemmas.List.Elements.{All-take}
+use Rattle.std.proofs.Common.{◌≡◌, ℕ, zero, suc, ◌-◌, ◌<◌, ◌≤◌, Bool, true, false, List, [], ◌∷◌, length, drop, Option, Some, None, refl, sym, subst, ◌∙◌, arith}
+use Rattle.std.specs.Prelude.{slice_get, nat_eq, if◌then◌else◌}
 use Rattle.hm_base.specs.declared.entry.Entry.{Entry}
-use Rattle.hm_base.specs.Lists.{IsPrefix}
-use Rattle.hm_base.proofs.ListLaws.{prefix_is_take}
-use Rattle.hm_rules.specs.ReplicaSteps.{last_of}
 use Rattle.std.proofs.lemmas.Bool.{cond_both, cond-true, cond-false, or_left, or_right, eq-eqb, eqb-false, ne_eqb}
 use Rattle.std.proofs.lemmas.Option.{none-some, same_Some, slice_get_within}
 use Rattle.hm_order.specs.Marks.{At}

@@ -25,9 +25,9 @@ use Rattle.hm_packet.specs.Messages.{Message}
 use Rattle.hm_packet.specs.Routing.{Routing}
 use Rattle.hm_order.specs.declared.mark.Mark.{Mark}
 use Rattle.hm_order.specs.declared.mark.Want.TheVariants as want
-use Rattle.hm_order.specs.Marks.{At, invoked_at, op_of}
+use Rattle.hm_order.specs.Marks.{At, op_of}
 use Rattle.hm_due_law.specs.Tidy.{HasWrite}
-use Rattle.hm_due_law.specs.Declared.{wanted, WasInvoked}
+use Rattle.hm_due_law.specs.Declared.{WasInvoked}
 use Rattle.hm_due_law.specs.Answers.{IsDueNow, IsClean}
 use Rattle.hm_due_law.specs.Agreed.{Agree}
 use Rattle.hm_rules.specs.Senders.{same_node, number, may_send}

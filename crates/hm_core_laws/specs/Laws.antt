@@ -12,7 +12,7 @@ use Rattle.hm_rules.specs.Replica.{Replica, opened, applied}
 use Rattle.hm_rules.specs.ReplicaSteps.{Stepped, sends, declares}
 use Rattle.hm_rules.specs.Service.{removes, replicas_below}
 use Rattle.hm_rules.specs.Events.{Setup}
-use Rattle.hm_rules.specs.World.{World, is_stopped, opened_replicas, opens}
+use Rattle.hm_rules.specs.World.{World, is_stopped, opens}
 use Rattle.hm_rules.specs.Deliveries.{stepped}
 use Rattle.hm_rules.specs.Happens.{serviced}
 use Rattle.hm_core_laws.specs.Sourced.{IsSourced}
@@ -32,6 +32,9 @@ QuietStepIsSound = (w : World) (number : ℕ) (r : Replica) (outs : List Message
     → All (λ (m : Message). IsTrue (replica_sends m.body)) outs
     → All (Holds w.history w.declared (w.net ++ outs)) outs
     → StepSound w number (sends r outs)
+
+abbrev pub QuietStepDeclaresNothing : Type 0
+QuietStepDeclaresNothing = (w : World) (r : Replica) (outs : List Message) → declared_by w (sends r outs) ≡ w.declared
 
 abbrev pub DeclaringStepIsSound : Type 0
 DeclaringStepIsSound = (w : World) (number : ℕ) (s : Stepped)

@@ -7,7 +7,3 @@ pub mod Owed
 pub mod Epochs
 pub mod Later
 pub mod Laws
-pub use Rattle.hm_due_law.specs.Tidy
-pub use Rattle.hm_due_law.specs.Declared
-pub use Rattle.hm_due_law.specs.Answers
-pub use Rattle.hm_due_law.specs.Agreed

@@ -1,9 +1,7 @@
 -- What is true of a packet that was sent. It stays true as history, declared list and net grow.
-use Rattle.std.specs.Prelude.{◌≡◌, ℕ, ◌<◌, IsTrue, List, length, Some, All}
-use Rattle.hm_base.specs.declared.stamp.Stamp.{Stamp}
+use Rattle.std.specs.Prelude.{◌≡◌, ℕ, IsTrue, List, Some, All}
 use Rattle.hm_base.specs.declared.entry.Entry.{Entry}
 use Rattle.hm_base.specs.declared.node.Node.{Node}
-use Rattle.hm_base.specs.declared.operation.Answer.{Answer}
 use Rattle.hm_base.specs.declared.operation.OpId.{OpId}
 use Rattle.hm_base.specs.Logs.{is_write}
 use Rattle.hm_packet.specs.declared.body.Body.{Body}
@@ -13,7 +11,7 @@ use Rattle.hm_packet.specs.Messages.{Message}
 use Rattle.hm_order.specs.declared.mark.Mark.{Mark}
 use Rattle.hm_order.specs.declared.mark.Want.{Want}
 use Rattle.hm_order.specs.declared.mark.Want.TheVariants as want
-use Rattle.hm_order.specs.Marks.{At, invoked_at, want_of, op_of}
+use Rattle.hm_order.specs.Marks.{At, want_of, op_of}
 use Rattle.hm_due_law.specs.Answers.{IsDueNow, IsFresh}
 use Rattle.hm_rules.specs.Senders.{number}
 use Rattle.hm_rules.specs.ReplicaSteps.{entry_of}

@@ -1,4 +1,4 @@
-ghost use Rattle.hm_core_laws.specs.Laws.{QuietStepIsSound, DeclaringStepIsSound, DeclaredAnswersAreSent, DeclaredAnswersAreTrue};
+ghost use Rattle.hm_core_laws.specs.Laws.{QuietStepIsSound, QuietStepDeclaresNothing, DeclaringStepIsSound, DeclaredAnswersAreSent, DeclaredAnswersAreTrue};
 
 use hm_due_law::answers::look_answer_is_due;
 use hm_due_law::growth::{declaring_keeps_agreement, due_reply_stays_due, fresh_read_stays_fresh};
@@ -6,7 +6,8 @@ use hm_due_law::tidy::prefix_is_tidy;
 
 /// A step that leaves a replica's lists and declares nothing is as it is owed, where the packets that it sends are true.
 pub fn quiet_step_is_sound()
-    ensures { QuietStepIsSound }
+    ensures sound { QuietStepIsSound }
+    ensures rests { QuietStepDeclaresNothing }
 {
     due_reply_stays_due();
     fresh_read_stays_fresh();

@@ -193,10 +193,3 @@ agree_declare h k (e ∷ es) g tidy all =
     let marks : (h ++ commits_for (e ∷ [])) ++ commits_for es ≡ h ++ commits_for (e ∷ es) =
     append_assoc h (commits_for (e ∷ [])) (commits_for es) ∙ ap (λ (l : List Mark). h ++ l) (sym (ap (map commit_of) (filter-append is_write (e ∷ []) es) ∙ map-append commit_of (filter is_write (e ∷ [])) (filter is_write es))) in
     subst (λ (l : List Entry). Agree (h ++ commits_for (e ∷ es)) l) whole (subst (λ (m : List Mark). Agree m ((k ++ e ∷ []) ++ es)) marks rest)
-
--- the same where the list is replaced by a longer one
-pub agree_longer : (h : List Mark) (k longer : List Entry) → Agree h k → IsPrefix k longer → IsTidy longer → All (WasInvoked h) (drop (length k) longer) → Agree (h ++ commits_for (drop (length k) longer)) longer
-agree_longer h k longer g p tidy all =
-    let rest : drop (length k) longer ≡ p.rest = ap (λ (l : List Entry). drop (length k) l) (sym p.parts) ∙ drop_at k p.rest (length k) refl in
-    let grown : Agree (h ++ commits_for p.rest) (k ++ p.rest) = agree_declare h k p.rest g (subst IsTidy (sym p.parts) tidy) (subst (λ (l : List Entry). All (WasInvoked h) l) rest all) in
-    subst (λ (l : List Entry). Agree (h ++ commits_for l) longer) (sym rest) (subst (λ (l : List Entry). Agree (h ++ commits_for p.rest) l) p.parts grown)

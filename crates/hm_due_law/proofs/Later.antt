@@ -1,19 +1,17 @@
 -- What stays as the history and the declared list grow.
-use Rattle.std.proofs.Common.{◌≡◌, ℕ, ◌<◌, ◌≤◌, Bool, true, List, length, Some, sym, ap, ◌∙◌, arith, inl, inr}
-use Rattle.std.specs.Prelude.{slice_get}
-use Rattle.std.specs.List.{position_or_len}
+use Rattle.std.proofs.Common.{◌≡◌, ℕ, ◌<◌, ◌≤◌, List, length, Some, sym, ap, ◌∙◌, arith, inl, inr}
 use Rattle.std.proofs.lemmas.Bool.{cases_lt}
 use Rattle.hm_base.specs.declared.stamp.Stamp.{Stamp}
 use Rattle.hm_base.specs.declared.entry.Entry.{Entry}
 use Rattle.hm_base.specs.declared.operation.Answer.{Answer}
 use Rattle.hm_base.specs.declared.operation.OpId.{OpId}
 use Rattle.hm_base.specs.Lists.{IsPrefix}
-use Rattle.hm_base.proofs.ListLaws.{prefix-length, prefix_at, prefix_at_back, first_at, first_le, first_later}
+use Rattle.hm_base.proofs.ListLaws.{prefix-length, prefix_at, prefix_at_back}
 use Rattle.hm_order.specs.declared.mark.Mark.{Mark}
 use Rattle.hm_order.specs.declared.mark.Mark.TheVariants.{Invoke, Commit}
 use Rattle.hm_order.specs.declared.mark.Want.{Want}
 use Rattle.hm_order.specs.declared.mark.Want.TheVariants.{Read, Write}
-use Rattle.hm_order.specs.Marks.{At, invokes, invoked_at, want_in, want_of, op_of}
+use Rattle.hm_order.specs.Marks.{At, invoked_at, want_in, want_of, op_of}
 use Rattle.hm_order.specs.Legal.{IsWellFormed, WritesAt, IsSeen}
 use Rattle.hm_order.proofs.Positions.{invoke_found, invoked_le, want_invoked, invoked_later, want_later}
 use Rattle.hm_due_law.specs.Tidy.{HasWrite}
@@ -33,9 +31,6 @@ pub was_invoked_later : {h h' : List Mark} (e : Entry) → IsPrefix h h' → Was
 was_invoked_later e f w = want_later (op_of e) (wanted e.object e.act) f w
 
 -- ---- writes that were committed
-
-pub writes_later : {h h' : List Mark} (object i : ℕ) → IsPrefix h h' → WritesAt h object i → WritesAt h' object i
-writes_later object i f x = record { writer = x.writer; stamp = x.stamp; value = x.value; commit = prefix_at i (Commit x.writer x.stamp) f x.commit; want = want_later x.writer (Write object x.value) f x.want }
 
 pub writes_before : {h h' : List Mark} (object i : ℕ) → IsPrefix h h' → IsWellFormed h → i < length h → WritesAt h' object i → WritesAt h object i
 writes_before {h} {h'} object i f formed l x =

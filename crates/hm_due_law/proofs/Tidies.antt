@@ -85,18 +85,6 @@ rises_beyond last [] ys i e h l a w = rises_write last ys i e h a w
 rises_beyond last (x ∷ xs) ys zero e h l a w = absurd (omega arith)
 rises_beyond last (x ∷ xs) ys (suc i) e h l a w = rises_beyond x.stamp xs ys i e h.1 (omega arith) a w
 
--- an end above where the list began is the stamp of a write
-pub rises_last : (last : Stamp) (log : List Entry) → StampsRise last log → last ≺ end_from last log → HasWrite log (end_from last log)
-rises_last last [] h l = absurd (not_below last last (at_most_same last) l)
-rises_last last (d ∷ ds) h l = elim (at_most_or_above (end_from d.stamp ds) d.stamp) [
-  | inl low ↦ first (is_write d) refl low
-  | inr high ↦ (let w : HasWrite ds (end_from d.stamp ds) = rises_last d.stamp ds h.1 high in record { place = suc w.place; entry = w.entry; there = w.there; write = w.write; same = w.same })
-]
-  where
-    first : (b : Bool) → is_write d ≡ b → end_from d.stamp ds ≼ d.stamp → HasWrite (d ∷ ds) (end_from d.stamp ds)
-    first true w low = record { place = 0; entry = d; there = refl; write = w; same = at_most_both d.stamp (end_from d.stamp ds) (rises_end d.stamp ds h.1) low }
-    first false w low = absurd (not_below (end_from d.stamp ds) last (subst (λ (s : Stamp). end_from d.stamp ds ≼ s) (look_follows last d w h.0) low) l)
-
 -- ---- requests that rise
 
 later_at : (d : Entry) (log : List Entry) (i : ℕ) (e : Entry) → AllLater d log → At log i e → IsTrue (comes_later d e)
@@ -165,17 +153,6 @@ tidy_reached xs ys i e p h a w le = elim (cases_lt i (length xs)) [
   | inl l ↦ l
   | inr l ↦ absurd (not_below e.stamp (end_stamp xs) le (tidy_beyond xs ys i e p h l a w))
 ]
-
--- the end of a list of prefixes rises
-pub tidy-end : (xs ys : List Entry) → IsPrefix xs ys → IsTidy ys → end_stamp xs ≼ end_stamp ys
-tidy-end xs ys p h =
-    let all : StampsRise least (xs ++ p.rest) = subst (λ (l : List Entry). StampsRise least l) (sym p.parts) h.stamps in
-    let e : end_stamp (xs ++ p.rest) ≡ end_from (end_stamp xs) p.rest = fold-append (λ (s : Stamp) (e : Entry). e.stamp) least xs p.rest in
-    subst (λ (l : List Entry). end_stamp xs ≼ end_stamp l) p.parts (subst (λ (s : Stamp). end_stamp xs ≼ s) (sym e) (rises_end (end_stamp xs) p.rest (rises_back least xs p.rest all)))
-
--- the end is the stamp of a write, or 0.0
-pub tidy_end_write : (log : List Entry) → IsTidy log → least ≺ end_stamp log → HasWrite log (end_stamp log)
-tidy_end_write log h l = rises_last least log h.stamps l
 
 -- an operation stands at most once, and so does a write's stamp
 pub operation_once : (log : List Entry) (i j : ℕ) (d e : Entry) → IsTidy log → At log i d → At log j e → op_of d ≡ op_of e → i ≡ j

@@ -7,9 +7,6 @@ use Rattle.std.proofs.lemmas.List.{length-append, length-take, length-drop, appe
 use Rattle.hm_packet.specs.Messages.{Message}
 use Rattle.hm_wire.specs.Packets.{spelling, first_fault, max_spelling_len, HasSpelling}
 use Rattle.hm_wire.specs.declared.malformed.Malformed.{Malformed}
-use Rattle.hm_wire.proofs.Lengths.{length-spelling}
-use Rattle.hm_wire.proofs.Decoded.{spelled_well}
-use Rattle.hm_wire.proofs.Unread.{one_packet}
 use Rattle.hm_frame.specs.Frames.{max_payload_len, head_len, frame, payload_len, payload, IsPart, IsAtFault, Takes, Answers, Call, Calls, fed, given, IsStuck}
 
 -- ---- a frame at the front
@@ -20,23 +17,9 @@ head_has m = refl
 pub frame_split : (m : Message) (r : List ℕ) → frame m ++ r ≡ to_be_bytes w16 (length (spelling m)) ++ (spelling m ++ r)
 frame_split m r = append_assoc (to_be_bytes w16 (length (spelling m))) (spelling m) r
 
--- its length
-pub frame_says : (m : Message) (r : List ℕ) → HasSpelling m → payload_len (frame m ++ r) ≡ length (spelling m)
-frame_says m r has =
-    let few : length (spelling m) ≤ max_spelling_len = length-spelling m has in
-    let front : take head_len (frame m ++ r) ≡ to_be_bytes w16 (length (spelling m)) =
-    ap (take head_len) (frame_split m r) ∙ take_at (to_be_bytes w16 (length (spelling m))) (spelling m ++ r) head_len (head_has m) in
-    ap (from_be_bytes w16) front ∙ from_be_bytes-to_be_bytes_2 (length (spelling m)) (omega arith)
-
 -- what follows it
 pub frame_behind : (m : Message) (r : List ℕ) → drop head_len (frame m ++ r) ≡ spelling m ++ r
 frame_behind m r = ap (drop head_len) (frame_split m r) ∙ drop_at (to_be_bytes w16 (length (spelling m))) (spelling m ++ r) head_len (head_has m)
-
-pub frame_has : (m : Message) (r : List ℕ) → HasSpelling m → payload (frame m ++ r) ≡ spelling m
-frame_has m r has =
-    ap (λ (n : ℕ). take n (drop head_len (frame m ++ r))) (frame_says m r has)
-    ∙ ap (take (length (spelling m))) (frame_behind m r)
-    ∙ take_at (spelling m) r (length (spelling m)) refl
 
 pub frame_len : (m : Message) (r : List ℕ) → length (frame m ++ r) ≡ head_len + length (spelling m) + length r
 frame_len m r =
@@ -45,41 +28,58 @@ frame_len m r =
     let third : length (to_be_bytes w16 (length (spelling m))) ≡ head_len = head_has m in
     omega arith
 
--- bytes that begin with a frame aren't a part of one
-pub frame_is_whole : (m : Message) (r : List ℕ) → HasSpelling m → IsPart (frame m ++ r) → ⊥
-frame_is_whole m r has (inl short) = let short' : length (frame m ++ r) < head_len = short in omega (arith, frame_len m r)
-frame_is_whole m r has (inr lacks) =
-    let short : length (frame m ++ r) < head_len + payload_len (frame m ++ r) = lacks.short in
-    let says : payload_len (frame m ++ r) ≡ length (spelling m) = frame_says m r has in
-    omega (arith, frame_len m r)
-
 none_some : (f : Malformed) → None ≡ Some f → ⊥
 none_some f same = cc
 
--- and have no fault
-pub frame_is_sound : (m : Message) (r : List ℕ) (f : Malformed) → HasSpelling m → IsAtFault (frame m ++ r) f → ⊥
-frame_is_sound m r f has (inl bad) =
-    let long : max_payload_len < payload_len (frame m ++ r) = bad.long in
-    let says : payload_len (frame m ++ r) ≡ length (spelling m) = frame_says m r has in
-    let few : length (spelling m) ≤ max_spelling_len = length-spelling m has in
-    omega arith
-frame_is_sound m r f has (inr bad) = none_some bad.inner (sym (spelled_well m has) ∙ ap first_fault (sym (frame_has m r has)) ∙ bad.first)
+-- from what is known of spellings: they are short, have no fault, and tell their packet
+module _ (short : (m : Message) → HasSpelling m → length (spelling m) ≤ max_spelling_len) (sound : (m : Message) → HasSpelling m → first_fault (spelling m) ≡ None)
+    (tells : (m n : Message) → HasSpelling m → HasSpelling n → spelling m ≡ spelling n → m ≡ n) where
+  -- its length
+  pub frame_says : (m : Message) (r : List ℕ) → HasSpelling m → payload_len (frame m ++ r) ≡ length (spelling m)
+  frame_says m r has =
+      let few : length (spelling m) ≤ max_spelling_len = short m has in
+      let front : take head_len (frame m ++ r) ≡ to_be_bytes w16 (length (spelling m)) =
+      ap (take head_len) (frame_split m r) ∙ take_at (to_be_bytes w16 (length (spelling m))) (spelling m ++ r) head_len (head_has m) in
+      ap (from_be_bytes w16) front ∙ from_be_bytes-to_be_bytes_2 (length (spelling m)) (omega arith)
 
-pub frame_not_stuck : (m : Message) (r : List ℕ) → HasSpelling m → IsStuck (frame m ++ r) → ⊥
-frame_not_stuck m r has (inl part) = frame_is_whole m r has part
-frame_not_stuck m r has (inr bad) = frame_is_sound m r bad.0 has bad.1
+  pub frame_has : (m : Message) (r : List ℕ) → HasSpelling m → payload (frame m ++ r) ≡ spelling m
+  frame_has m r has =
+      ap (λ (n : ℕ). take n (drop head_len (frame m ++ r))) (frame_says m r has)
+      ∙ ap (take (length (spelling m))) (frame_behind m r)
+      ∙ take_at (spelling m) r (length (spelling m)) refl
 
--- bytes begin with one frame
-pub one_frame : (m n : Message) (r s : List ℕ) → HasSpelling m → HasSpelling n → frame m ++ r ≡ frame n ++ s → (m ≡ n) × (r ≡ s)
-one_frame m n r s has also same =
-    let one : m ≡ n = one_packet m n has also (sym (frame_has m r has) ∙ ap payload same ∙ frame_has n s also) in
-    let behind : spelling m ++ r ≡ spelling n ++ s = sym (frame_behind m r) ∙ ap (drop head_len) same ∙ frame_behind n s in
-    let rest : r ≡ s =
-    sym (drop_at (spelling m) r (length (spelling m)) refl)
-    ∙ ap (drop (length (spelling m))) behind
-    ∙ ap (λ (x : Message). drop (length (spelling x)) (spelling n ++ s)) one
-    ∙ drop_at (spelling n) s (length (spelling n)) refl in
-    (one, rest)
+  -- bytes that begin with a frame aren't a part of one
+  pub frame_is_whole : (m : Message) (r : List ℕ) → HasSpelling m → IsPart (frame m ++ r) → ⊥
+  frame_is_whole m r has (inl short) = let short' : length (frame m ++ r) < head_len = short in omega (arith, frame_len m r)
+  frame_is_whole m r has (inr lacks) =
+      let short : length (frame m ++ r) < head_len + payload_len (frame m ++ r) = lacks.short in
+      let says : payload_len (frame m ++ r) ≡ length (spelling m) = frame_says m r has in
+      omega (arith, frame_len m r)
+
+  -- and have no fault
+  pub frame_is_sound : (m : Message) (r : List ℕ) (f : Malformed) → HasSpelling m → IsAtFault (frame m ++ r) f → ⊥
+  frame_is_sound m r f has (inl bad) =
+      let long : max_payload_len < payload_len (frame m ++ r) = bad.long in
+      let says : payload_len (frame m ++ r) ≡ length (spelling m) = frame_says m r has in
+      let few : length (spelling m) ≤ max_spelling_len = short m has in
+      omega arith
+  frame_is_sound m r f has (inr bad) = none_some bad.inner (sym (sound m has) ∙ ap first_fault (sym (frame_has m r has)) ∙ bad.first)
+
+  pub frame_not_stuck : (m : Message) (r : List ℕ) → HasSpelling m → IsStuck (frame m ++ r) → ⊥
+  frame_not_stuck m r has (inl part) = frame_is_whole m r has part
+  frame_not_stuck m r has (inr bad) = frame_is_sound m r bad.0 has bad.1
+
+  -- bytes begin with one frame
+  pub one_frame : (m n : Message) (r s : List ℕ) → HasSpelling m → HasSpelling n → frame m ++ r ≡ frame n ++ s → (m ≡ n) × (r ≡ s)
+  one_frame m n r s has also same =
+      let one : m ≡ n = tells m n has also (sym (frame_has m r has) ∙ ap payload same ∙ frame_has n s also) in
+      let behind : spelling m ++ r ≡ spelling n ++ s = sym (frame_behind m r) ∙ ap (drop head_len) same ∙ frame_behind n s in
+      let rest : r ≡ s =
+      sym (drop_at (spelling m) r (length (spelling m)) refl)
+      ∙ ap (drop (length (spelling m))) behind
+      ∙ ap (λ (x : Message). drop (length (spelling x)) (spelling n ++ s)) one
+      ∙ drop_at (spelling n) s (length (spelling n)) refl in
+      (one, rest)
 
 -- ---- answers
 
@@ -102,30 +102,6 @@ one_fault bytes f h (inr bad) (inl worse) = let long : max_payload_len < payload
 one_fault bytes f h (inr bad) (inr worse) =
     let same : bad.inner ≡ worse.inner = some_same bad.inner worse.inner (sym bad.first ∙ worse.first) in
     bad.fault_is ∙ ap (λ (x : Malformed). record { at = x.at + head_len; reason = x.reason }) same ∙ sym worse.fault_is
-
-abbrev Answer : Type 0
-Answer = Result (Option Message) Malformed
-
-ok_none : (r : Answer) (m : Message) → r ≡ Ok (Some m) → r ≡ Ok None → ⊥
-ok_none r m is same = cc
-
-err_ok : (r : Answer) (f : Malformed) (found : Option Message) → r ≡ Err f → r ≡ Ok found → ⊥
-err_ok r f found is same = cc
-
-err_same : (r : Answer) (f h : Malformed) → r ≡ Err f → r ≡ Err h → f ≡ h
-err_same r f h is same = cc
-
--- None comes exactly where the frame isn't there to its end
-pub answers_none : (result : Result (Option Message) Malformed) (old new : List ℕ) → Answers result old new → (result ≡ Ok None) ↔ IsPart old
-answers_none (Ok (Some m)) old new a = (λ same. absurd (ok_none (Ok (Some m)) m refl same), λ part. absurd (frame_is_whole m new a.lawful (subst IsPart a.parts part)))
-answers_none (Ok None) old new a = (λ same. a.0, λ part. refl)
-answers_none (Err f) old new a = (λ same. absurd (err_ok (Err f) f None refl same), λ part. absurd (part_is_sound old f part a.0))
-
--- a fault comes exactly where the bytes have it
-pub answers_fault : (result : Result (Option Message) Malformed) (old new : List ℕ) (h : Malformed) → Answers result old new → (result ≡ Err h) ↔ IsAtFault old h
-answers_fault (Ok (Some m)) old new h a = (λ same. absurd (err_ok (Ok (Some m)) h (Some m) same refl), λ bad. absurd (frame_is_sound m new h a.lawful (subst (λ (l : List ℕ). IsAtFault l h) a.parts bad)))
-answers_fault (Ok None) old new h a = (λ same. absurd (err_ok (Ok None) h None same refl), λ bad. absurd (part_is_sound old h a.0 bad))
-answers_fault (Err f) old new h a = (λ same. subst (IsAtFault old) (err_same (Err f) f h refl same) a.0, λ bad. ap Err (one_fault old f h a.0 bad))
 
 -- ---- calls
 
@@ -152,24 +128,27 @@ given_lawful (Call.Asked (Ok (Some m)) ∷ calls) old held run = (run.1.lawful, 
 given_lawful (Call.Asked (Ok None) ∷ calls) old held run = given_lawful calls run.0 held run.2
 given_lawful (Call.Asked (Err f) ∷ calls) old held run = given_lawful calls run.0 held run.2
 
--- bytes are frames, and then bytes that give none, in one way
-one_cut : (ms ns : List Message) (held rest : List ℕ) → AreLawful ms → AreLawful ns → IsStuck held → IsStuck rest → flat_map frame ms ++ held ≡ flat_map frame ns ++ rest → (ms ≡ ns) × (held ≡ rest)
-unfolding AreLawful
-one_cut [] [] held rest ours theirs stuck also same = (refl, same)
-one_cut [] (n ∷ ns) held rest ours theirs stuck also same =
-    absurd (frame_not_stuck n (flat_map frame ns ++ rest) theirs.0 (subst IsStuck (same ∙ append_assoc (frame n) (flat_map frame ns) rest) stuck))
-one_cut (m ∷ ms) [] held rest ours theirs stuck also same =
-    absurd (frame_not_stuck m (flat_map frame ms ++ held) ours.0 (subst IsStuck (sym same ∙ append_assoc (frame m) (flat_map frame ms) held) also))
-one_cut (m ∷ ms) (n ∷ ns) held rest ours theirs stuck also same =
-    let first = one_frame m n (flat_map frame ms ++ held) (flat_map frame ns ++ rest) ours.0 theirs.0 (sym (append_assoc (frame m) (flat_map frame ms) held) ∙ same ∙ append_assoc (frame n) (flat_map frame ns) rest) in
-    let others = one_cut ms ns held rest ours.1 theirs.1 stuck also first.1 in
-    let here : m ≡ n = first.0 in
-    let there : ms ≡ ns = others.0 in
-    (cc, others.1)
+-- from what is known of frames: bytes begin with one at most, and those that begin with one aren't stuck
+module _ (one : (m n : Message) (r s : List ℕ) → HasSpelling m → HasSpelling n → frame m ++ r ≡ frame n ++ s → (m ≡ n) × (r ≡ s))
+    (stuck_none : (m : Message) (r : List ℕ) → HasSpelling m → IsStuck (frame m ++ r) → ⊥) where
+  -- bytes are frames, and then bytes that give none, in one way
+  one_cut : (ms ns : List Message) (held rest : List ℕ) → AreLawful ms → AreLawful ns → IsStuck held → IsStuck rest → flat_map frame ms ++ held ≡ flat_map frame ns ++ rest → (ms ≡ ns) × (held ≡ rest)
+  unfolding AreLawful
+  one_cut [] [] held rest ours theirs stuck also same = (refl, same)
+  one_cut [] (n ∷ ns) held rest ours theirs stuck also same =
+      absurd (stuck_none n (flat_map frame ns ++ rest) theirs.0 (subst IsStuck (same ∙ append_assoc (frame n) (flat_map frame ns) rest) stuck))
+  one_cut (m ∷ ms) [] held rest ours theirs stuck also same =
+      absurd (stuck_none m (flat_map frame ms ++ held) ours.0 (subst IsStuck (sym same ∙ append_assoc (frame m) (flat_map frame ms) held) also))
+  one_cut (m ∷ ms) (n ∷ ns) held rest ours theirs stuck also same =
+      let first = one m n (flat_map frame ms ++ held) (flat_map frame ns ++ rest) ours.0 theirs.0 (sym (append_assoc (frame m) (flat_map frame ms) held) ∙ same ∙ append_assoc (frame n) (flat_map frame ns) rest) in
+      let others = one_cut ms ns held rest ours.1 theirs.1 stuck also first.1 in
+      let here : m ≡ n = first.0 in
+      let there : ms ≡ ns = others.0 in
+      (cc, others.1)
 
-pub same_packets : (calls others : List Call) (held rest : List ℕ) → Calls [] calls held → Calls [] others rest → fed calls ≡ fed others → IsStuck held → IsStuck rest → (given calls ≡ given others) × (held ≡ rest)
-same_packets calls others held rest run also same stuck no_more =
-    one_cut (given calls) (given others) held rest (given_lawful calls [] held run) (given_lawful others [] rest also) stuck no_more (sym (in_order calls [] held run) ∙ same ∙ in_order others [] rest also)
+  pub same_packets : (calls others : List Call) (held rest : List ℕ) → Calls [] calls held → Calls [] others rest → fed calls ≡ fed others → IsStuck held → IsStuck rest → (given calls ≡ given others) × (held ≡ rest)
+  same_packets calls others held rest run also same stuck no_more =
+      one_cut (given calls) (given others) held rest (given_lawful calls [] held run) (given_lawful others [] rest also) stuck no_more (sym (in_order calls [] held run) ∙ same ∙ in_order others [] rest also)
 
 -- ---- taking one
 

@@ -1,4 +1,1 @@
-pub mod Adapters
-pub mod Ends
-pub mod Faults
 pub mod Frames

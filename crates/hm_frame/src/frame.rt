@@ -9,9 +9,9 @@ use hm_base::memory::NoMemory;
 use hm_codec::buf::{Buf, MAX_LEN};
 use hm_codec::decode::decode;
 use hm_codec::encode::encode;
+use hm_packet::packet::Packet;
 use hm_wire::malformed::{Malformed, Reason};
 use hm_wire_text::text::write_spelled;
-use hm_packet::packet::Packet;
 use std::alloc::Global;
 use std::marker::Model;
 

@@ -1,9 +1,5 @@
-//! Where bytes come from and where they go to, and the frames in them.
+//! Frames in a stream of bytes.
 #![tactic(auto)]
 
-pub mod adapters;
 pub mod frame;
 pub mod law;
-pub mod memory;
-pub mod outside;
-pub mod sure;

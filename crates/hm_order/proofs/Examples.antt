@@ -9,7 +9,7 @@ use Rattle.hm_order.specs.declared.mark.Want.TheVariants.{Read, Write}
 use Rattle.hm_base.specs.declared.operation.Answer.{Answer}
 use Rattle.hm_base.specs.declared.operation.Answer.TheVariants.{Nothing, Found}
 use Rattle.hm_base.specs.Stamps.{least}
-use Rattle.hm_order.specs.Marks.{At, invoked_at}
+use Rattle.hm_order.specs.Marks.{At}
 use Rattle.hm_order.specs.Order.{order}
 use Rattle.hm_order.specs.Legal.{stored, IsWellFormed, AllDue, IsDue, IsSeen, WritesAt, IsLegal}
 use Rattle.hm_order.proofs.Growth.{formed_nil, formed_invoke, formed_commit, formed_reply, all_due_nil, all_due_push}

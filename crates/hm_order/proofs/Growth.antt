@@ -1,10 +1,10 @@
 -- What holds of a history when one more mark is put behind it.
-use Rattle.std.proofs.Common.{◌≡◌, ◌≢◌, ℕ, ◌<◌, ◌≤◌, ◌⊎◌, Bool, List, [], ◌∷◌, ◌++◌, length, Some, refl, sym, ap, subst, ◌∙◌, zero, suc, arith, inl, inr}
+use Rattle.std.proofs.Common.{◌≡◌, ◌≢◌, ℕ, ◌<◌, ◌≤◌, Bool, List, [], ◌∷◌, ◌++◌, length, Some, refl, sym, ap, subst, ◌∙◌, zero, suc, arith, inl, inr}
 use Rattle.std.specs.Prelude.{slice_get}
 use Rattle.std.specs.List.{position_or_len}
 use Rattle.std.proofs.lemmas.Bool.{cases_lt, cond-false, ne_eqb}
 use Rattle.std.proofs.lemmas.List.Folds.{position_or_len_push}
-use Rattle.std.proofs.lemmas.Option.{none-some, slice_get_past, same_Some}
+use Rattle.std.proofs.lemmas.Option.{none-some, same_Some}
 use Rattle.hm_base.specs.declared.stamp.Stamp.{Stamp}
 use Rattle.hm_order.specs.declared.mark.Mark.{Mark}
 use Rattle.hm_order.specs.declared.mark.Mark.TheVariants.{Invoke, Commit, Reply}
@@ -13,7 +13,7 @@ use Rattle.hm_order.specs.declared.mark.Want.{Want}
 use Rattle.hm_order.specs.declared.mark.Want.TheVariants.{Read, Write}
 use Rattle.hm_base.specs.declared.operation.Answer.{Answer}
 use Rattle.hm_base.specs.Stamps.{least}
-use Rattle.hm_base.proofs.ListLaws.{at_push, at_push_cases, at_last}
+use Rattle.hm_base.proofs.ListLaws.{at_push, at_push_cases}
 use Rattle.hm_order.specs.Marks.{At, invokes, invoked_at, committed_at, replied_at, want_in, want_of}
 use Rattle.hm_order.specs.Legal.{IsWellFormed, WritesAt, IsSeen, IsDue, AllDue}
 use Rattle.hm_order.proofs.Lists.{at_within}

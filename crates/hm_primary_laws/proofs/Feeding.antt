@@ -8,14 +8,13 @@ use Rattle.hm_base.specs.declared.entry.Entry.{Entry}
 use Rattle.hm_base.specs.declared.why.Why.TheVariants as why
 use Rattle.hm_base.specs.Lists.{IsPrefix, IsSlice}
 use Rattle.hm_base.specs.Taking.{Took, Taken, held, extended, grown, take_page}
-use Rattle.hm_base.proofs.ListLaws.{prefix_same, prefix_append, prefix_then, prefix_take, prefix-length, prefix-take, prefix_is_take, taken_page, All-prefix}
+use Rattle.hm_base.proofs.ListLaws.{prefix_same, prefix_append, prefix_then, prefix_take, prefix-length, prefix-take, prefix_is_take, taken_page}
 use Rattle.hm_packet.specs.declared.acted.Did.TheVariants as did
 use Rattle.hm_packet.specs.declared.body.Feed.{Feed}
 use Rattle.hm_rules.specs.Replica.{Replica, len, applied, first_member}
 use Rattle.hm_rules.specs.ReplicaSteps.{Stepped, ignored, log_full, sends, ack_to, learns, on_took}
 use Rattle.hm_rules.specs.PrimaryBackup.{is_primary, primary_taken, primary_feed}
 use Rattle.hm_rules.specs.World.{World}
-use Rattle.hm_core_laws.specs.Sourced.{IsSourced}
 use Rattle.hm_core_laws.specs.Core.{ListHolds}
 use Rattle.hm_view_laws.specs.Leads.{Lead}
 use Rattle.hm_view_laws.specs.Changes.{put, with_held}

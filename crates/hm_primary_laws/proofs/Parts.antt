@@ -1,6 +1,6 @@
 -- Parts of the steps of a live replica: what it sends, its state in the middle of a step, and the two ways in which a step ends, with
 -- or without the commit rule.
-use Rattle.std.proofs.Common.{◌≡◌, ℕ, ◌-◌, ◌<◌, ◌≤◌, true, false, List, [], ◌∷◌, ◌++◌, length, map, take, drop, refl, sym, subst, arith}
+use Rattle.std.proofs.Common.{◌≡◌, ℕ, ◌-◌, ◌<◌, ◌≤◌, true, false, List, [], ◌∷◌, ◌++◌, length, map, take, drop, refl, sym, subst}
 use Rattle.std.specs.Prelude.{max, ◌&&◌, nat_lt, nat_le, IsTrue, slice_set, All}
 use Rattle.std.proofs.lemmas.Bool.{cond_both, and_parts, ltb-true, leb-true}
 use Rattle.std.proofs.lemmas.List.Elements.{All-nil, All-cons, All-append, All-take, All-drop, All-map}
@@ -33,7 +33,6 @@ use Rattle.hm_primary_laws.proofs.Grows.{Grew}
 use Rattle.hm_primary_laws.proofs.Moves.{each_set, leads_of}
 use Rattle.hm_primary_laws.proofs.Changes.{same_log}
 use Rattle.hm_primary_laws.proofs.Commits.{Unsettles, declared_longer, commits_group, commits_settled, rests_settled}
-use Rattle.hm_view_laws.proofs.Ends.{nothing_declared}
 use Rattle.hm_primary_laws.proofs.Laws.{StepLaws}
 
 pub epochs_of : {w : World} {epochs : List (List ℕ)} → EpochsHold w epochs → EpochsOf epochs w.stopped w.replicas
@@ -165,7 +164,7 @@ module _ (w : World) (n : ℕ) (r : Replica) (a : Acts w n r) where
     -- ---- without the commit rule
 
     pub silently : (outs : List Message) → (is_primary new ≡ true → SettledHolds w.declared new) → AllSaid w a.primary.epochs leads w.declared outs → MemberStep w n r a (sends new outs)
-    silently outs settled said = subst (Result w n r a (sends new outs)) (sym (nothing_declared w.declared new.log)) (record {
+    silently outs settled said = subst (Result w n r a (sends new outs)) (sym (a.laws.rests w new outs)) (record {
       leads = leads;
       grew = b.grew;
       group = b.group;

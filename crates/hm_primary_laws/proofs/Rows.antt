@@ -10,12 +10,10 @@ use Rattle.hm_base.specs.declared.node.Node.{Node}
 use Rattle.hm_base.specs.declared.node.Node.TheVariants as node
 use Rattle.hm_base.specs.declared.verdict.Admit.{Admit}
 use Rattle.hm_base.specs.declared.verdict.Admit.TheVariants as admit
-use Rattle.hm_base.specs.declared.verdict.Verdict.TheVariants as verdict
 use Rattle.hm_base.specs.declared.why.Why.TheVariants as why
 use Rattle.hm_base.specs.Lists.{IsPrefix}
-use Rattle.hm_base.specs.Logs.{end_stamp, read_ahead}
-use Rattle.hm_base.specs.Stamps.{◌≺◌}
-use Rattle.hm_base.specs.Verdicts.{judge, admission}
+use Rattle.hm_base.specs.Logs.{read_ahead}
+use Rattle.hm_base.specs.Verdicts.{admission}
 use Rattle.hm_base.proofs.ListLaws.{prefix_same, prefix_append, prefix_then, prefix_take, prefix-length}
 use Rattle.hm_packet.specs.declared.acted.Did.TheVariants as did
 use Rattle.hm_packet.specs.declared.body.Body.{Body}

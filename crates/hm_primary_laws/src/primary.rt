@@ -9,7 +9,9 @@ ghost use Rattle.hm_primary_laws.specs.Led.{PrimaryHolds};
 
 use hm_core_laws::epochs::{epochs_go_on, epochs_hold_at_first, replicas_open};
 use hm_core_laws::later::{lists_go_on_holding, true_packet_stays_true};
-use hm_core_laws::steps::{declared_answers_are_true, declaring_step_is_sound};
+use hm_core_laws::steps::{
+    declared_answers_are_true, declaring_step_is_sound, quiet_step_is_sound,
+};
 use hm_due_law::answers::{answer_ahead_is_due, whole_list_answer_is_due};
 use hm_due_law::tidy::admitted_write_keeps_tidy;
 
@@ -28,6 +30,7 @@ pub fn primary_steps_are_sound()
     whole_list_answer_is_due();
     answer_ahead_is_due();
     admitted_write_keeps_tidy();
+    quiet_step_is_sound();
     declared_answers_are_true();
     true_packet_stays_true();
     lists_go_on_holding();
@@ -41,6 +44,7 @@ pub fn primary_goes_on()
     whole_list_answer_is_due();
     answer_ahead_is_due();
     admitted_write_keeps_tidy();
+    quiet_step_is_sound();
     declared_answers_are_true();
     true_packet_stays_true();
     lists_go_on_holding();

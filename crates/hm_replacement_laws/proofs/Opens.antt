@@ -1,9 +1,8 @@
 -- One switch is accepted at a time before the first event.
-use Rattle.std.proofs.Common.{◌≡◌, ℕ, ◌+◌, Some, sym, ap, subst, ◌∙◌, arith}
+use Rattle.std.proofs.Common.{◌≡◌, ℕ, Some, sym, ap, arith}
 use Rattle.std.specs.Prelude.{slice_get}
 use Rattle.std.proofs.lemmas.List.Elements.{All-nil}
 use Rattle.std.proofs.lemmas.Bool.{false≢true}
-use Rattle.hm_order.specs.Marks.{At}
 use Rattle.hm_rules.specs.Replica.{Replica, opened}
 use Rattle.hm_rules.specs.Service.{replicas_below}
 use Rattle.hm_rules.specs.Events.{Setup}

@@ -1,9 +1,3 @@
-pub mod Buffers
-pub mod Closings
-pub mod Fills
-pub mod Lines
-pub mod Nexts
-pub mod Openings
+pub mod Lawful
 pub mod Replays
-pub mod Stages
 pub mod Statuses

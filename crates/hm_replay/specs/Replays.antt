@@ -9,7 +9,7 @@ use Rattle.hm_order.specs.declared.mark.Mark.{Mark}
 use Rattle.hm_order.specs.Legal.{IsLegal}
 use Rattle.hm_order.specs.Order.{order}
 use Rattle.hm_schedule.specs.LineTexts.{IsLine}
-use Rattle.hm_schedule.specs.Orders.{IsBegun, IsSchedule, IsOutside, stage_of, lines_text, setup_in, events_in}
+use Rattle.hm_schedule.specs.Orders.{IsBegun, IsSchedule, BreaksOff, lines_text, setup_in, events_in}
 use Rattle.hm_schedule.specs.Reasons.{reason_text}
 use Rattle.hm_schedule.specs.declared.line.Line.{Line}
 use Rattle.hm_schedule.specs.declared.line.LineReason.{LineReason}
@@ -40,12 +40,6 @@ end_text lines = order_text (order (history_in lines))
 -- the text shows a refused write at just those events at which the slots are full
 abbrev pub ShowsFull : List Line → List ℕ → Type 0
 ShowsFull lines text = refused_events text ≡ full_in lines
-
--- a source's bytes are these lines, and then bytes that are outside the grammar
-pub record BreaksOff (begun : List Line) (bytes : List ℕ) : Type 0 where
-  pub rest : List ℕ
-  pub parts : bytes ≡ lines_text begun ++ rest
-  pub outside : IsOutside (stage_of begun) rest
 
 -- ---- how a replay ends
 

@@ -1,10 +1,12 @@
 -- How a run ends, and with which status its program ends then.
-use Rattle.std.specs.Prelude.{◌≡◌, ℕ, List, Option}
-use Rattle.hm_frame.specs.Faults.{Rose}
+use Rattle.std.specs.Prelude.{◌≡◌, ℕ, List, Option, Result, Ok, Err}
+use Rattle.hm_outside.specs.Faults.{Faults, IsQuiet, ReadFailed, PutFailed}
+use Rattle.hm_outside.specs.declared.device.NotPut.{NotPut}
+use Rattle.hm_outside.specs.declared.device.NotPut.TheVariants as not_put
 use Rattle.hm_replay.specs.Replays.{IsWholeRun, IsBadRun, IsCutRun, IsPartialRun}
 use Rattle.hm_show.specs.declared.show.Shown.{Shown}
 use Rattle.hm_show.specs.declared.show.Shown.TheVariants as shown
-use Rattle.hm_show.specs.Shows as shows
+use Rattle.hm_show.specs.Shows.{Shows}
 use Rattle.hm_replay.specs.declared.status.Status.{Status}
 use Rattle.hm_replay.specs.declared.status.Status.TheVariants as status
 
@@ -27,26 +29,25 @@ status_of shown.WriteFault = status.WriteFault
 status_of (shown.TooLong number) = status.TooLong number
 status_of shown.NoMemory = status.NoMemory
 
--- the faults of source and sink before and after a run
-pub record Faults : Type 0 where
-  pub read_before : ℕ
-  pub read_after : ℕ
-  pub put_before : ℕ
-  pub put_after : ℕ
+-- the status behind the end of a run's text, which is this one where all of it was put
+abbrev pub ended : {T : Type 0} → Result T NotPut → Status → Status
+ended (Ok done) whole = whole
+ended (Err not_put.Failed) whole = status.WriteFault
+ended (Err not_put.NoMemory) whole = status.NoMemory
 
--- how a replay ended
+-- How a replay ends: with one of these statuses, and what it read and put then. A fault comes exactly where a call of the device failed.
 abbrev pub Ends : Status → Option (List ℕ) → Option (List ℕ) → Option (List ℕ) → Option (List ℕ) → Faults → Type 0
-Ends status.Done left now held put f = IsWholeRun left now held put
+Ends status.Done left now held put f = IsQuiet f × IsWholeRun left now held put
 Ends status.BadWords left now held put f = ⊥
-Ends (status.BadLine line reason) left now held put f = IsBadRun left held put line reason
+Ends (status.BadLine line reason) left now held put f = IsQuiet f × IsBadRun left held put line reason
 Ends (status.BadFrame frame at reason) left now held put f = ⊥
-Ends status.ReadFault left now held put f = Rose f.read_before f.read_after × IsCutRun left now held put
-Ends status.WriteFault left now held put f = Rose f.put_before f.put_after × IsPartialRun left now held put
+Ends status.ReadFault left now held put f = ReadFailed f × IsCutRun left now held put
+Ends status.WriteFault left now held put f = PutFailed f × IsPartialRun left now held put
 Ends (status.TooLong line) left now held put f = ⊥
-Ends status.NoMemory left now held put f = IsPartialRun left now held put
+Ends status.NoMemory left now held put f = IsQuiet f × IsPartialRun left now held put
 
--- how a show ended
-pub record EndsShow (result : Status) (left now held put : Option (List ℕ)) (f : shows.Faults) : Type 0 where
+-- how a show ends: with the status of one of its answers, and with what that owes
+pub record EndsShow (result : Status) (left now held put : Option (List ℕ)) (f : Faults) : Type 0 where
   pub answer : Shown
   pub status_is : result ≡ status_of answer
-  pub shows : shows.Shows answer left now held put f
+  pub shows : Shows answer left now held put f

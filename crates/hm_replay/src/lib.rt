@@ -2,11 +2,8 @@
 #![tactic(auto)]
 
 mod events;
-pub mod lines;
-mod opening;
-mod reading;
+mod law;
 pub mod replay;
 mod run_text;
-pub mod stage;
 pub mod status;
 mod words;

@@ -7,22 +7,25 @@ ghost use Rattle.hm_show.specs.Shows.{max_frames};
 ghost use Rattle.hm_order.specs.Order.{order};
 ghost use Rattle.hm_rules.specs.RunText.{order_text, bad_text};
 ghost use Rattle.hm_schedule.specs.Reasons.{reason_text};
-ghost use Rattle.hm_replay.specs.Closings.{Closes};
 ghost use Rattle.hm_replay.specs.Statuses.{Ends, EndsShow};
-ghost use Rattle.hm_frame.specs.Faults.{Rose};
-ghost use Rattle.hm_replay.specs.Replays.{IsWholeRun, IsBadRun, BreaksOff};
-ghost use Rattle.hm_schedule.specs.Orders.{IsBegun, IsSchedule, lines_text};
+ghost use Rattle.hm_outside.specs.Faults.{Rose};
+ghost use Rattle.hm_outside.specs.Puts.{Puts};
+ghost use Rattle.hm_replay.specs.Replays.{IsWholeRun, IsBadRun};
+ghost use Rattle.hm_schedule.specs.Orders.{IsBegun, IsSchedule, BreaksOff, lines_text};
 ghost use Rattle.hm_schedule.specs.declared.line.Line.{Line};
 ghost use Rattle.hm_schedule.specs.declared.line.LineReason.{LineReason};
 
 use crate::events::write_event;
-use crate::lines::LineReader;
-use crate::reading::{NextEvent, next_event, read_opening};
+use crate::law::schedules_run_lawfully;
 use crate::run_text::{write_bad, write_order};
-use crate::status::{Status, status_of};
+use crate::status::{Status, ended, status_of};
 use crate::words::is_word;
-use hm_frame::outside::{Sink, Source, put_all};
+use hm_outside::device::{NotPut, Sink, Source, put_all, put_closing};
+use hm_outside::law::calls_add_up;
+use hm_schedule::law::{bytes_break_off_once, schedules_grow_by_lines};
 use hm_schedule::line::LineReason;
+use hm_schedule::lines::LineReader;
+use hm_schedule::reading::{NextEvent, next_event, read_opening};
 use hm_show::show::show;
 use hm_world::world::World;
 use std::alloc::Global;
@@ -82,6 +85,7 @@ pub fn run<S: Source, K: Sink>(
         → (Rose (S.faults source.old) (S.faults source.new) → ⊥) → (Rose (K.faults sink.old) (K.faults sink.new) → ⊥)
         → (result ≡ Status.Done) ⊎ (result ≡ Status.NoMemory) }
 {
+    bytes_break_off_once();
     if is_word(words, "replay") {
         replay(alloc, source, sink)
     } else if is_word(words, "show") {
@@ -96,6 +100,9 @@ fn replay<S: Source, K: Sink>(alloc: Global, source: &mut S, sink: &mut K) -> St
     ensures { Ends result (S.left source.old) (S.left source.new) (K.held sink.old) (K.held sink.new)
         (record { read_before = S.faults source.old; read_after = S.faults source.new; put_before = K.faults sink.old; put_after = K.faults sink.new }) }
 {
+    calls_add_up();
+    schedules_grow_by_lines();
+    schedules_run_lawfully();
     let Ok(mut reader) = LineReader::open(alloc) else {
         return Status::NoMemory;
     };
@@ -119,9 +126,13 @@ fn replay<S: Source, K: Sink>(alloc: Global, source: &mut S, sink: &mut K) -> St
                     Err(_) => return Status::WriteFault,
                 }
             }
-            NextEvent::End => return finish(alloc, &world, &mut text, sink),
+            NextEvent::End => {
+                return ended(finish(alloc, &world, &mut text, sink), Status::Done);
+            }
             NextEvent::Bad(reason) => {
-                return refuse(opening.lines + world.events() + 1, reason, &mut text, sink);
+                let line = opening.lines + world.events() + 1;
+                let closed = refuse(line, reason, &mut text, sink);
+                return ended(closed, Status::BadLine { line, reason });
             }
         }
         next = match next_event(&mut reader, source, world.events()) {
@@ -132,36 +143,36 @@ fn replay<S: Source, K: Sink>(alloc: Global, source: &mut S, sink: &mut K) -> St
 }
 
 /// Writes the order of the operations, which ends the text of a whole run.
-fn finish<K: Sink>(alloc: Global, world: &World, text: &mut Vec<u8>, sink: &mut K) -> Status
-    ensures { Closes result Status.Done (order_text (order world.now.world.history)) (K.held sink.old) (K.held sink.new) (K.faults sink.old) (K.faults sink.new) }
+fn finish<K: Sink>(
+    alloc: Global,
+    world: &World,
+    text: &mut Vec<u8>,
+    sink: &mut K,
+) -> Result<(), NotPut>
+    ensures { Puts result (order_text (order world.now.world.history)) (K.held sink.old) (K.held sink.new) (K.faults sink.old) (K.faults sink.new) }
 {
     let Ok(ops) = world.history().order(alloc) else {
-        return Status::NoMemory;
+        return Err(NotPut::NoMemory);
     };
     text.clear();
     match write_order(&ops, text) {
-        Ok(()) => put_closing(text, Status::Done, sink),
-        Err(_) => Status::NoMemory,
+        Ok(()) => put_closing(sink, text),
+        Err(_) => Err(NotPut::NoMemory),
     }
 }
 
 /// Writes the number of the line that is outside the grammar, counted from 1, which ends the text where the schedule breaks off.
-fn refuse<K: Sink>(line: u32, reason: LineReason, text: &mut Vec<u8>, sink: &mut K) -> Status
-    ensures { Closes result (Status.BadLine line reason) (bad_text line (reason_text reason)) (K.held sink.old) (K.held sink.new) (K.faults sink.old) (K.faults sink.new) }
+fn refuse<K: Sink>(
+    line: u32,
+    reason: LineReason,
+    text: &mut Vec<u8>,
+    sink: &mut K,
+) -> Result<(), NotPut>
+    ensures { Puts result (bad_text line (reason_text reason)) (K.held sink.old) (K.held sink.new) (K.faults sink.old) (K.faults sink.new) }
 {
     text.clear();
     match write_bad(line, reason, text) {
-        Ok(()) => put_closing(text, Status::BadLine { line, reason }, sink),
-        Err(_) => Status::NoMemory,
-    }
-}
-
-/// Puts the end of the text. The status is this one where all of it was put.
-fn put_closing<K: Sink>(text: &[u8], whole: Status, sink: &mut K) -> Status
-    ensures { Closes result whole text.now (K.held sink.old) (K.held sink.new) (K.faults sink.old) (K.faults sink.new) }
-{
-    match put_all(sink, text) {
-        Ok(()) => whole,
-        Err(_) => Status::WriteFault,
+        Ok(()) => put_closing(sink, text),
+        Err(_) => Err(NotPut::NoMemory),
     }
 }

@@ -1,9 +1,10 @@
 ghost use Rattle.std.specs.Prelude.{◌≡◌};
-ghost use Rattle.hm_replay.specs.Statuses.{status_of};
+ghost use Rattle.hm_replay.specs.Statuses.{ended, status_of};
 
-use hm_wire::malformed::Reason;
+use hm_outside::device::NotPut;
 use hm_schedule::line::LineReason;
 use hm_show::show::Shown;
+use hm_wire::malformed::Reason;
 
 /// How a run ended. Lines and frames are numbered from 1.
 #[derive(Clone, Copy, Debug, PartialEq, Eq)]
@@ -60,5 +61,16 @@ pub(crate) fn status_of(shown: Shown) -> Status
         Shown::WriteFault => Status::WriteFault,
         Shown::TooLong { number } => Status::TooLong { line: number },
         Shown::NoMemory => Status::NoMemory,
+    }
+}
+
+/// The status behind the end of a run's text, which is this one where all of it was put.
+pub(crate) fn ended(closed: Result<(), NotPut>, whole: Status) -> Status
+    ensures { result ≡ ended closed whole }
+{
+    match closed {
+        Ok(()) => whole,
+        Err(NotPut::Failed) => Status::WriteFault,
+        Err(NotPut::NoMemory) => Status::NoMemory,
     }
 }

@@ -5,5 +5,6 @@
 pub mod acts;
 pub mod answers;
 pub mod group;
+pub mod law;
 pub mod packets;
 pub mod senders;

@@ -1,3 +1,8 @@
 pub mod FieldTexts
 pub mod Names
 pub mod LineLemmas
+pub mod BufferParts
+pub mod LineFronts
+pub mod LinePushes
+pub mod NotNext
+pub mod Opened

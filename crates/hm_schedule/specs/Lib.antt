@@ -8,3 +8,10 @@ pub mod Names
 pub mod Schedules
 pub mod Orders
 pub mod Reads
+pub mod Lines
+pub mod Fills
+pub mod Buffers
+pub mod Stages
+pub mod Openings
+pub mod Nexts
+pub mod Fronts

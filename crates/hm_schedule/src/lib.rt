@@ -1,9 +1,14 @@
-//! Lines of schedules: their one spelling, and reading them.
+//! Schedules: the one spelling of each line, which lines may follow which, and reading them from a source.
 #![tactic(auto)]
 
 pub mod event;
 mod fields;
 pub mod keyword;
+pub mod law;
 pub mod limits;
 pub mod line;
+pub mod lines;
+pub mod opening;
+pub mod reading;
 mod reads;
+pub mod stage;

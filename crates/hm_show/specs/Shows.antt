@@ -8,8 +8,8 @@ use Rattle.hm_wire.specs.Packets.{HasSpelling}
 use Rattle.hm_wire.specs.declared.malformed.Malformed.{Malformed}
 use Rattle.hm_wire.specs.declared.malformed.Reason.{Reason}
 use Rattle.hm_wire.specs.declared.malformed.Reason.TheVariants as reason
-use Rattle.hm_frame.specs.Faults.{Rose}
 use Rattle.hm_frame.specs.Frames.{frame, IsPart, IsAtFault}
+use Rattle.hm_outside.specs.Faults.{Faults, IsQuiet, ReadFailed, PutFailed}
 use Rattle.hm_rules.specs.RunText.{line_of, packet_lines, too_long_text}
 use Rattle.hm_show.specs.declared.show.TheConstants.{MAX_FRAMES}
 use Rattle.hm_show.specs.declared.show.Shown.{Shown}
@@ -105,17 +105,11 @@ pub record IsPartialShow (left now held put : Option (List ℕ)) : Type 0 where
   pub front : IsPrefix text (packet_lines 1 packets ++ closing)
   pub written : Appends held put text
 
--- the faults of source and sink before and after
-pub record Faults : Type 0 where
-  pub read_before : ℕ
-  pub read_after : ℕ
-  pub put_before : ℕ
-  pub put_after : ℕ
-
+-- how a show ends, and what it read and put then
 abbrev pub Shows : Shown → Option (List ℕ) → Option (List ℕ) → Option (List ℕ) → Option (List ℕ) → Faults → Type 0
-Shows shown.Done left now held put f = (count : ℕ) × IsShown verdict.Whole count left now held put
-Shows (shown.BadFrame number fault) left now held put f = (count : ℕ) × (number ≡ count + 1) × IsShown (verdict.Bad fault) count left now held put
-Shows (shown.TooLong number) left now held put f = (count : ℕ) × (number ≡ count + 1) × IsShown verdict.Long count left now held put
-Shows shown.ReadFault left now held put f = Rose f.read_before f.read_after × IsCutShow left now held put
-Shows shown.WriteFault left now held put f = Rose f.put_before f.put_after × IsPartialShow left now held put
-Shows shown.NoMemory left now held put f = IsPartialShow left now held put
+Shows shown.Done left now held put f = IsQuiet f × (count : ℕ) × IsShown verdict.Whole count left now held put
+Shows (shown.BadFrame number fault) left now held put f = IsQuiet f × (count : ℕ) × (number ≡ count + 1) × IsShown (verdict.Bad fault) count left now held put
+Shows (shown.TooLong number) left now held put f = IsQuiet f × (count : ℕ) × (number ≡ count + 1) × IsShown verdict.Long count left now held put
+Shows shown.ReadFault left now held put f = ReadFailed f × IsCutShow left now held put
+Shows shown.WriteFault left now held put f = PutFailed f × IsPartialShow left now held put
+Shows shown.NoMemory left now held put f = IsQuiet f × IsPartialShow left now held put

@@ -1,15 +1,14 @@
 -- The steps of a show.
-use Rattle.std.specs.Prelude.{◌≡◌, ℕ, Bool, true, false, ◌+◌, ◌<◌, ◌≤◌, ◌⊎◌, List, [], ◌∷◌, ◌++◌, length, flat_map, Option, Some, None, Result, Ok, Err}
+use Rattle.std.specs.Prelude.{◌≡◌, ℕ, Bool, true, false, ◌+◌, ◌<◌, ◌≤◌, List, [], ◌∷◌, ◌++◌, length, flat_map, Option, Some, None, Result, Ok, Err}
 use Rattle.std.specs.List.{AllByRecursion}
-use Rattle.std.specs.Io.KnownBytes.{Appends}
-use Rattle.hm_base.specs.Lists.{IsPrefix}
 use Rattle.hm_packet.specs.Messages.{Message}
 use Rattle.hm_wire.specs.declared.malformed.Malformed.{Malformed}
 use Rattle.hm_wire.specs.Packets.{HasSpelling}
-use Rattle.hm_frame.specs.Faults.{Rose}
 use Rattle.hm_frame.specs.Frames.{frame, IsPart, IsAtFault, Takes}
+use Rattle.hm_outside.specs.declared.device.NotPut.{NotPut}
+use Rattle.hm_outside.specs.declared.device.NotPut.TheVariants as not_put
 use Rattle.hm_rules.specs.RunText.{packet_lines}
-use Rattle.hm_show.specs.Shows.{max_frames, shown_of, closing_text}
+use Rattle.hm_show.specs.Shows.{max_frames}
 use Rattle.hm_show.specs.declared.show.Shown.{Shown}
 use Rattle.hm_show.specs.declared.show.Shown.TheVariants as shown
 use Rattle.hm_show.specs.declared.verdict.Verdict.{Verdict}
@@ -41,27 +40,8 @@ abbrev pub TakesFrames : {E : Type 0} → Result (Option Verdict) E → List ℕ
 TakesFrames (Ok halt) old new before after text out = TakesSome old new before after text out × IsHalt halt after new
 TakesFrames (Err e) old new before after text out = Unit {0}
 
--- all of a text was put, and the answer is the one that goes with it
-pub record PutsAll (result whole : Shown) (text : List ℕ) (held put : Option (List ℕ)) : Type 0 where
-  pub result_is : result ≡ whole
-  pub written : Appends held put text
-
--- a front of it was put before a fault
-pub record PutsFront (result : Shown) (text : List ℕ) (held put : Option (List ℕ)) (before after : ℕ) : Type 0 where
-  pub result_is : result ≡ shown.WriteFault
-  pub rose : Rose before after
-  pub front : List ℕ
-  pub is_front : IsPrefix front text
-  pub written : Appends held put front
-
--- nothing was put for want of memory
-pub record PutsNothing (result : Shown) (held put : Option (List ℕ)) : Type 0 where
-  pub result_is : result ≡ shown.NoMemory
-  pub written : Appends held put []
-
-abbrev pub Puts : Shown → Shown → List ℕ → Option (List ℕ) → Option (List ℕ) → ℕ → ℕ → Type 0
-Puts result whole text held put before after = PutsAll result whole text held put ⊎ (PutsFront result text held put before after ⊎ PutsNothing result held put)
-
--- the end of the text was put behind the lines that weren't yet
-abbrev pub Closes : Shown → Verdict → ℕ → List ℕ → Option (List ℕ) → Option (List ℕ) → ℕ → ℕ → Type 0
-Closes result v count text held put before after = Puts result (shown_of v count) (text ++ closing_text v count) held put before after
+-- the answer behind the end of a text, which is this one where all of it was put
+abbrev pub answer_of : {T : Type 0} → Result T NotPut → Shown → Shown
+answer_of (Ok done) whole = whole
+answer_of (Err not_put.Failed) whole = shown.WriteFault
+answer_of (Err not_put.NoMemory) whole = shown.NoMemory

@@ -1,18 +1,21 @@
-ghost use Rattle.std.specs.Prelude.{◌≡◌, ◌≤◌, ◌⊎◌, List, Some, length, flat_map, IfOk, vec_len};
+ghost use Rattle.std.specs.Prelude.{◌≡◌, ◌≤◌, ◌⊎◌, ◌++◌, List, Some, length, flat_map};
 ghost use Rattle.std.specs.List.{AllByRecursion};
 ghost use Rattle.hm_packet.specs.Messages.{Message};
 ghost use Rattle.hm_wire.specs.Packets.{HasSpelling};
-ghost use Rattle.hm_frame.specs.Faults.{Rose};
+ghost use Rattle.hm_outside.specs.Faults.{Rose};
 ghost use Rattle.hm_frame.specs.Frames.{frame};
-ghost use Rattle.hm_show.specs.Shows.{max_frames, shown_of, Shows};
-ghost use Rattle.hm_show.specs.Steps.{TakesFrames, Closes, Puts};
+ghost use Rattle.hm_show.specs.Shows.{max_frames, closing_text, shown_of, Shows};
+ghost use Rattle.hm_outside.specs.Puts.{Puts};
+ghost use Rattle.hm_show.specs.Steps.{TakesFrames, answer_of};
 
 use crate::text::{write_closing, write_next_line};
 use crate::verdict::{Verdict, verdict_at_end};
 use hm_base::memory::NoMemory;
-use hm_wire::malformed::Malformed;
 use hm_frame::frame::Unframer;
-use hm_frame::outside::{Sink, Source, put_all};
+use hm_frame::law::{bytes_begin_with_one_frame, pieces_give_the_same_packets};
+use hm_outside::device::{NotPut, Sink, Source, put_all, put_closing, zeros};
+use hm_outside::law::calls_add_up;
+use hm_wire::malformed::Malformed;
 use std::alloc::Global;
 
 /// How many frames are shown at most.
@@ -47,6 +50,8 @@ pub fn show<S: Source, K: Sink>(alloc: Global, source: &mut S, sink: &mut K) -> 
     ensures ends { Shows result (S.left source.old) (S.left source.new) (K.held sink.old) (K.held sink.new)
         (record { read_before = S.faults source.old; read_after = S.faults source.new; put_before = K.faults sink.old; put_after = K.faults sink.new }) }
 {
+    bytes_begin_with_one_frame();
+    pieces_give_the_same_packets();
     show_frames(alloc, source, sink)
 }
 
@@ -55,6 +60,7 @@ fn show_frames<S: Source, K: Sink>(alloc: Global, source: &mut S, sink: &mut K) 
     ensures { Shows result (S.left source.old) (S.left source.new) (K.held sink.old) (K.held sink.new)
         (record { read_before = S.faults source.old; read_after = S.faults source.new; put_before = K.faults sink.old; put_after = K.faults sink.new }) }
 {
+    calls_add_up();
     let Ok(mut piece) = zeros(alloc, PIECE_LEN) else {
         return Shown::NoMemory;
     };
@@ -65,7 +71,10 @@ fn show_frames<S: Source, K: Sink>(alloc: Global, source: &mut S, sink: &mut K) 
         text.clear();
         match write_frames(&mut unframer, &mut count, &mut text) {
             Ok(None) => {}
-            Ok(Some(verdict)) => return close(verdict, count, &mut text, sink),
+            Ok(Some(verdict)) => {
+                let closed = close(verdict, count, &mut text, sink);
+                return answer_of(closed, shown_of(verdict, count));
+            },
             Err(_) => return Shown::NoMemory,
         }
         match put_all(sink, &text) {
@@ -75,7 +84,9 @@ fn show_frames<S: Source, K: Sink>(alloc: Global, source: &mut S, sink: &mut K) 
         match source.take(&mut piece) {
             Ok(0) => {
                 text.clear();
-                return close(verdict_at_end(unframer.held()), count, &mut text, sink);
+                let verdict = verdict_at_end(unframer.held());
+                let closed = close(verdict, count, &mut text, sink);
+                return answer_of(closed, shown_of(verdict, count));
             }
             Ok(len) => match unframer.feed(&piece[..len]) {
                 Ok(()) => {}
@@ -110,13 +121,29 @@ fn write_frames(
 }
 
 /// Appends the end of the text, and puts it.
-fn close<K: Sink>(verdict: Verdict, count: u32, text: &mut Vec<u8>, sink: &mut K) -> Shown
+fn close<K: Sink>(
+    verdict: Verdict,
+    count: u32,
+    text: &mut Vec<u8>,
+    sink: &mut K,
+) -> Result<(), NotPut>
     requires { count ≤ max_frames }
-    ensures { Closes result verdict count text.old.items (K.held sink.old) (K.held sink.new) (K.faults sink.old) (K.faults sink.new) }
+    ensures { Puts result (text.old.items ++ closing_text verdict count) (K.held sink.old) (K.held sink.new) (K.faults sink.old) (K.faults sink.new) }
 {
     match write_closing(verdict, count, text) {
-        Ok(()) => put_closing(text, shown_of(verdict, count), sink),
-        Err(_) => Shown::NoMemory,
+        Ok(()) => put_closing(sink, text),
+        Err(_) => Err(NotPut::NoMemory),
+    }
+}
+
+/// The answer behind the end of the text, which is this one where all of it was put.
+fn answer_of(closed: Result<(), NotPut>, whole: Shown) -> Shown
+    ensures { result ≡ answer_of closed whole }
+{
+    match closed {
+        Ok(()) => whole,
+        Err(NotPut::Failed) => Shown::WriteFault,
+        Err(NotPut::NoMemory) => Shown::NoMemory,
     }
 }
 
@@ -133,20 +160,4 @@ fn shown_of(verdict: Verdict, count: u32) -> Shown
         },
         Verdict::Long => Shown::TooLong { number: count + 1 },
     }
-}
-
-/// Puts a text. The answer is this one where all of it was put.
-fn put_closing<K: Sink>(text: &[u8], whole: Shown, sink: &mut K) -> Shown
-    ensures { Puts result whole text.now (K.held sink.old) (K.held sink.new) (K.faults sink.old) (K.faults sink.new) }
-{
-    match put_all(sink, text) {
-        Ok(()) => whole,
-        Err(_) => Shown::WriteFault,
-    }
-}
-
-fn zeros(alloc: Global, len: usize) -> Result<Vec<u8>, NoMemory>
-    ensures { IfOk result (λ bytes. vec_len bytes ≡ len) }
-{
-    Ok(vec![in alloc; 0u8; len]?)
 }

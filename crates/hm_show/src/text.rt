@@ -6,8 +6,8 @@ ghost use Rattle.hm_show.specs.Shows.{max_frames, reason_text, end_text, bad_fra
 use crate::verdict::Verdict;
 use hm_base::memory::NoMemory;
 use hm_base::text::{write_bytes, write_number};
-use hm_wire::malformed::{Malformed, Reason};
 use hm_frame::frame::Unframer;
+use hm_wire::malformed::{Malformed, Reason};
 
 /// Takes the next frame and appends its packet's line: its number, counted from 1, and the packet's text. False while the frame
 /// isn't there to its end; then, and where it is at fault, `out` is as it was. After want of memory `out` may hold a part of what

@@ -1,8 +1,8 @@
-use crate::rows::ROWS;
-use hm_frame::adapters::{ReaderSource, WriterSink};
-use hm_frame::memory::{MemorySink, MemorySource};
-use hm_frame::outside::Source;
-use hm_frame::sure::{SureSink, SureSource};
+use crate::rows::{ROWS, WRITE_THEN_READ};
+use hm_outside::adapters::{ReaderSource, WriterSink};
+use hm_outside::device::{Failed, Sink};
+use hm_outside::memory::{MemorySink, MemorySource};
+use hm_outside::sure::{SureSink, SureSource};
 use hm_replay::replay::run;
 use hm_replay::status::Status;
 use std::alloc::{AllocError, Global};
@@ -10,49 +10,10 @@ use std::io;
 use std::io::Read;
 use std::test::Fail;
 
-/// A write, its completion and its reply, and a stamped read.
-const WRITE_THEN_READ: &[u8] = b"group chain 1
-write 7 5 61 1
-next
-next
-next
-next
-read 8 5 1
-next
-next
-next
-";
-
+/// The text of the first event of [`WRITE_THEN_READ`].
 const FIRST_EVENT: &[u8] = b"event 1 ok
 invoke 7.1
 packet 1 c7 s1 write 1 5 61
-";
-
-const WRITE_THEN_READ_TEXT: &[u8] = b"event 1 ok
-invoke 7.1
-packet 1 c7 s1 write 1 5 61
-event 2 ok
-packet 2 s1 r0 put 1.1 7 1 5 61
-event 3 ok
-commit 7.1 1.1
-packet 3 r0 s1 done 1.1 7 1
-event 4 ok
-packet 4 s1 c7 reply 1 1.1 wrote
-event 5 ok
-reply 7.1 1.1 wrote
-event 6 ok
-invoke 8.1
-packet 5 c8 s1 read 1 5
-event 7 ok
-packet 6 s1 r0 fastread 1.1 8 1 5
-event 8 ok
-packet 7 r0 c8 reply 1 1.1 61
-event 9 ok
-reply 8.1 1.1 61
-order 2
-place 7.1
-place 8.1
-end
 ";
 
 /// The program's words.
@@ -64,156 +25,98 @@ fn words(alloc: Global, texts: &[&str]) -> Result<Vec<String>, AllocError> {
     Ok(words)
 }
 
+/// A source in memory of which the calls with these numbers fail.
+fn source(alloc: Global, bytes: &[u8], fails: &[u64]) -> Result<MemorySource, AllocError> {
+    Ok(MemorySource::new(bytes.to_vec(alloc)?, fails.to_vec(alloc)?))
+}
+
 /// A sink of which the calls with these numbers fail.
 fn sink(alloc: Global, fails: &[u64]) -> Result<MemorySink, Fail> {
     let sink = MemorySink::open(alloc, 4096, fails.to_vec(alloc)?);
     Ok(sink?)
 }
 
-/// Replays what a source gives, and answers the status and what was put.
-fn replayed<S: Source>(
-    alloc: Global,
-    source: &mut S,
-    sink: &mut MemorySink,
-) -> Result<Status, Fail> {
-    let words = words(alloc, &["replay"])?;
-    Ok(run(alloc, &words, source, sink))
+/// A sink that sees whether each piece begins an event's text or the ending, and holds no other.
+#[derive(Drop)]
+struct Pieces {
+    sink: MemorySink,
+    are_whole: bool,
 }
 
-/// A source in memory of which the calls with these numbers fail.
-fn source(alloc: Global, bytes: &[u8], fails: &[u64]) -> Result<MemorySource, AllocError> {
-    Ok(MemorySource::new(bytes.to_vec(alloc)?, fails.to_vec(alloc)?))
+/// Whether a piece begins an event's text or the ending, and no other begins in it.
+fn is_whole(piece: &[u8]) -> bool {
+    let begins = piece.starts_with(b"event ")
+        || piece.starts_with(b"order ")
+        || piece.starts_with(b"bad ");
+    begins
+        && !piece.windows(7).any(|part| part == b"\nevent ".as_slice()
+            || part == b"\norder ".as_slice())
+        && !piece.windows(5).any(|part| part == b"\nbad ".as_slice())
+}
+
+impl Sink for Pieces {
+    ghost use Rattle.std.specs.Prelude.{Some};
+
+    ghost held = { λ s. Some s.sink.held };
+
+    ghost faults = { λ s. s.sink.faults };
+
+    fn put(&mut self, piece: &[u8]) -> Result<usize, Failed> {
+        self.are_whole = self.are_whole && is_whole(piece);
+        self.sink.put(piece)
+    }
 }
 
 #[test]
-fn replays_a_write_and_a_read(rt: HostRuntime) -> Result<(), Fail> {
-    let mut sink = sink(rt.alloc(), &[])?;
-    let status = replayed(
-        rt.alloc(),
-        &mut source(rt.alloc(), WRITE_THEN_READ, &[])?,
-        &mut sink,
-    )?;
-    assert_eq!(rt; status.code(), 0);
-    assert_eq!(rt; sink.as_slice(), WRITE_THEN_READ_TEXT);
-    Ok(())
-}
-
-#[test]
-fn replays_each_row(rt: HostRuntime) -> Result<(), Fail> {
+fn replays_each_row_piece_by_piece(rt: HostRuntime) -> Result<(), Fail> {
+    let words = words(rt.alloc(), &["replay"])?;
     for row in &ROWS {
-        let mut sink = sink(rt.alloc(), &[])?;
-        let status = replayed(
-            rt.alloc(),
-            &mut source(rt.alloc(), row.schedule, &[])?,
-            &mut sink,
-        )?;
-        assert_eq!(rt; status, Status::Done);
-        assert_eq!(rt; sink.as_slice(), row.text);
+        let mut source = source(rt.alloc(), row.schedule, &[])?;
+        let mut pieces = Pieces {
+            sink: sink(rt.alloc(), &[])?,
+            are_whole: true,
+        };
+        let status = run(rt.alloc(), &words, &mut source, &mut pieces);
+        assert_eq!(rt; status, row.status);
+        assert_eq!(rt; pieces.sink.as_slice(), row.text);
+        assert!(rt; pieces.are_whole);
     }
     Ok(())
 }
 
 #[test]
-fn takes_setup_lines_in_their_order(rt: HostRuntime) -> Result<(), Fail> {
-    let mut sink = sink(rt.alloc(), &[])?;
-    let schedule = b"group chain 2\nlife 9\nlog 3\ntable 1 1\nread 8 5 1\n";
-    let status = replayed(
+fn stops_where_a_device_fails(rt: HostRuntime) -> Result<(), Fail> {
+    let words = words(rt.alloc(), &["replay"])?;
+    let schedule = WRITE_THEN_READ.schedule;
+    let mut text = sink(rt.alloc(), &[2])?;
+    let status = run(
         rt.alloc(),
+        &words,
         &mut source(rt.alloc(), schedule, &[])?,
-        &mut sink,
-    )?;
-    assert_eq!(rt; status.code(), 3);
-    assert_eq!(rt; sink.as_slice(), b"bad 4 Word\n".as_slice());
-    Ok(())
-}
-
-#[test]
-fn replays_a_group_alone(rt: HostRuntime) -> Result<(), Fail> {
-    let mut sink = sink(rt.alloc(), &[])?;
-    let status = replayed(
-        rt.alloc(),
-        &mut source(rt.alloc(), b"group chain 1\n", &[])?,
-        &mut sink,
-    )?;
-    assert_eq!(rt; status, Status::Done);
-    assert_eq!(rt; sink.as_slice(), b"order 0\nend\n".as_slice());
-    Ok(())
-}
-
-#[test]
-fn stamps_no_read_before_a_completion(rt: HostRuntime) -> Result<(), Fail> {
-    let mut sink = sink(rt.alloc(), &[])?;
-    let schedule = b"group chain 1\nread 8 5 1\nnext\nnext\nnext\n";
-    let status = replayed(
-        rt.alloc(),
-        &mut source(rt.alloc(), schedule, &[])?,
-        &mut sink,
-    )?;
-    assert_eq!(rt; status.code(), 0);
-    let text =
-        b"event 1 ok\ninvoke 8.1\npacket 1 c8 s1 read 1 5\nevent 2 ok\npacket 2 s1 r0 normalread 8 1 5\nevent 3 ok\npacket 3 r0 c8 reply 1 0.0 none\nevent 4 ok\nreply 8.1 0.0 none\norder 1\nplace 8.1\nend\n";
-    assert_eq!(rt; sink.as_slice(), text.as_slice());
-    Ok(())
-}
-
-#[test]
-fn ends_at_the_first_bad_line(rt: HostRuntime) -> Result<(), Fail> {
-    let mut sink = sink(rt.alloc(), &[])?;
-    let schedule = b"group chain 1\nread 8 5 1\nfoo\nnext\n";
-    let status = replayed(
-        rt.alloc(),
-        &mut source(rt.alloc(), schedule, &[])?,
-        &mut sink,
-    )?;
-    assert_eq!(rt; status.code(), 3);
-    let text = b"event 1 ok\ninvoke 8.1\npacket 1 c8 s1 read 1 5\nbad 3 Word\n";
-    assert_eq!(rt; sink.as_slice(), text.as_slice());
-    Ok(())
-}
-
-#[test]
-fn wants_a_group(rt: HostRuntime) -> Result<(), Fail> {
-    let mut sink = sink(rt.alloc(), &[])?;
-    let status = replayed(rt.alloc(), &mut source(rt.alloc(), b"", &[])?, &mut sink)?;
-    assert_eq!(rt; status.code(), 3);
-    assert_eq!(rt; sink.as_slice(), b"bad 1 Word\n".as_slice());
-    Ok(())
-}
-
-#[test]
-fn stops_where_the_sink_fails(rt: HostRuntime) -> Result<(), Fail> {
-    let mut sink = sink(rt.alloc(), &[2])?;
-    let status = replayed(
-        rt.alloc(),
-        &mut source(rt.alloc(), WRITE_THEN_READ, &[])?,
-        &mut sink,
-    )?;
+        &mut text,
+    );
     assert_eq!(rt; status.code(), 5);
-    assert_eq!(rt; sink.as_slice(), FIRST_EVENT);
-    Ok(())
-}
+    assert_eq!(rt; text.as_slice(), FIRST_EVENT);
 
-#[test]
-fn stops_where_the_source_fails(rt: HostRuntime) -> Result<(), Fail> {
-    let mut sink = sink(rt.alloc(), &[])?;
-    let status = replayed(
+    let mut text = sink(rt.alloc(), &[])?;
+    let status = run(
         rt.alloc(),
-        &mut source(rt.alloc(), WRITE_THEN_READ, &[1])?,
-        &mut sink,
-    )?;
+        &words,
+        &mut source(rt.alloc(), schedule, &[1])?,
+        &mut text,
+    );
     assert_eq!(rt; status.code(), 4);
-    assert_eq!(rt; sink.as_slice(), b"".as_slice());
+    assert_eq!(rt; text.as_slice(), b"".as_slice());
     Ok(())
 }
 
 #[test]
 fn takes_one_word(rt: HostRuntime) -> Result<(), Fail> {
     let words = words(rt.alloc(), &["replay", "now"])?;
-    let mut sink = sink(rt.alloc(), &[])?;
-    let mut source = source(rt.alloc(), WRITE_THEN_READ, &[])?;
-    let status = run(rt.alloc(), &words, &mut source, &mut sink);
-    assert_eq!(rt; status.code(), 2);
-    assert_eq!(rt; sink.as_slice(), b"".as_slice());
+    let mut source = source(rt.alloc(), WRITE_THEN_READ.schedule, &[])?;
+    let mut text = sink(rt.alloc(), &[])?;
+    assert_eq!(rt; run(rt.alloc(), &words, &mut source, &mut text).code(), 2);
+    assert_eq!(rt; text.as_slice(), b"".as_slice());
     Ok(())
 }
 
@@ -245,34 +148,22 @@ impl Read for Trickle<'_> {
 }
 
 #[test]
-fn cuts_lines_from_any_pieces(rt: HostRuntime) -> Result<(), Fail> {
-    let mut sink = sink(rt.alloc(), &[])?;
-    let mut source = ReaderSource::new(Trickle {
-        bytes: WRITE_THEN_READ,
-    });
-    let status = replayed(rt.alloc(), &mut source, &mut sink)?;
-    assert_eq!(rt; status.code(), 0);
-    assert_eq!(rt; sink.as_slice(), WRITE_THEN_READ_TEXT);
-    Ok(())
-}
-
-#[test]
-fn writes_to_a_writer(rt: HostRuntime) -> Result<(), Fail> {
+fn runs_over_each_device(rt: HostRuntime) -> Result<(), Fail> {
     let words = words(rt.alloc(), &["replay"])?;
-    let mut source = SureSource::new(WRITE_THEN_READ.to_vec(rt.alloc())?);
-    let mut sink = WriterSink::new(Vec::new(rt.alloc()));
-    let status = run(rt.alloc(), &words, &mut source, &mut sink);
-    assert_eq!(rt; status.code(), 0);
-    assert_eq!(rt; sink.into_inner().as_slice(), WRITE_THEN_READ_TEXT);
-    Ok(())
-}
+    let bytes = WRITE_THEN_READ.schedule;
+    let mut text = WriterSink::new(Vec::new(rt.alloc()));
+    let mut source = ReaderSource::new(Trickle { bytes });
+    assert_eq!(rt;
+        run(rt.alloc(), &words, &mut source, &mut text),
+        Status::Done
+    );
+    assert_eq!(rt; text.into_inner().as_slice(), WRITE_THEN_READ.text);
 
-#[test]
-fn never_fails_over_sure_ends(rt: HostRuntime) -> Result<(), Fail> {
-    let words = words(rt.alloc(), &["replay"])?;
-    let mut source = SureSource::new(WRITE_THEN_READ.to_vec(rt.alloc())?);
-    let status = run(rt.alloc(), &words, &mut source, &mut SureSink::new());
-    assert_eq!(rt; status, Status::Done);
+    let mut source = SureSource::new(bytes.to_vec(rt.alloc())?);
+    assert_eq!(rt;
+        run(rt.alloc(), &words, &mut source, &mut SureSink::new()),
+        Status::Done
+    );
     Ok(())
 }
 

@@ -1,10 +1,81 @@
 //! Schedules and the whole texts of their runs.
 
-/// A schedule, and the text of its run.
+use hm_replay::status::Status;
+use hm_schedule::line::LineReason;
+
+/// A schedule, how its run ends, and the text of its run.
+#[derive(Clone, Copy)]
 pub struct Row {
     pub schedule: &'static [u8],
+    pub status: Status,
     pub text: &'static [u8],
 }
+
+/// A write, its completion and its reply, and a stamped read.
+pub const WRITE_THEN_READ: Row = Row {
+    schedule: b"group chain 1
+write 7 5 61 1
+next
+next
+next
+next
+read 8 5 1
+next
+next
+next
+",
+    status: Status::Done,
+    text: b"event 1 ok
+invoke 7.1
+packet 1 c7 s1 write 1 5 61
+event 2 ok
+packet 2 s1 r0 put 1.1 7 1 5 61
+event 3 ok
+commit 7.1 1.1
+packet 3 r0 s1 done 1.1 7 1
+event 4 ok
+packet 4 s1 c7 reply 1 1.1 wrote
+event 5 ok
+reply 7.1 1.1 wrote
+event 6 ok
+invoke 8.1
+packet 5 c8 s1 read 1 5
+event 7 ok
+packet 6 s1 r0 fastread 1.1 8 1 5
+event 8 ok
+packet 7 r0 c8 reply 1 1.1 61
+event 9 ok
+reply 8.1 1.1 61
+order 2
+place 7.1
+place 8.1
+end
+",
+};
+
+/// A read before the first completion.
+const READ_BEFORE_A_COMPLETION: Row = Row {
+    schedule: b"group chain 1
+read 8 5 1
+next
+next
+next
+",
+    status: Status::Done,
+    text: b"event 1 ok
+invoke 8.1
+packet 1 c8 s1 read 1 5
+event 2 ok
+packet 2 s1 r0 normalread 8 1 5
+event 3 ok
+packet 3 r0 c8 reply 1 0.0 none
+event 4 ok
+reply 8.1 0.0 none
+order 1
+place 8.1
+end
+",
+};
 
 /// A write that reaches the replica once more.
 const CHAIN_PUT_REPEATED: Row = Row {
@@ -15,6 +86,7 @@ deliver 2
 deliver 2
 deliver 2
 ",
+    status: Status::Done,
     text: b"event 1 ok
 invoke 7.1
 packet 1 c7 s1 write 1 5 61
@@ -52,6 +124,7 @@ read 10 5 1
 deliver 14
 deliver 15
 ",
+    status: Status::Done,
     text: b"event 1 ok
 invoke 7.1
 packet 1 c7 s1 write 1 5 61
@@ -111,6 +184,7 @@ deliver 5
 read 9 5 1
 deliver 7
 ",
+    status: Status::Done,
     text: b"event 1 ok
 invoke 7.1
 packet 1 c7 s1 write 1 5 61
@@ -148,6 +222,7 @@ deliver 1
 deliver 1
 deliver 1
 ",
+    status: Status::Done,
     text: b"event 1 ok
 invoke 7.1
 packet 1 c7 s1 read 1 1
@@ -174,6 +249,7 @@ read 8 1 1
 next
 next
 ",
+    status: Status::Done,
     text: b"event 1 ok
 invoke 7.1
 packet 1 c7 s1 read 1 1
@@ -201,6 +277,7 @@ deliver 4
 resend 8 1
 deliver 6
 ",
+    status: Status::Done,
     text: b"event 1 ok
 invoke 7.1
 packet 1 c7 s1 write 1 5 61
@@ -239,6 +316,7 @@ write 9 6 62 1
 next
 next
 ",
+    status: Status::Done,
     text: b"event 1 ok
 invoke 7.1
 packet 1 c7 s1 write 1 5 61
@@ -277,6 +355,7 @@ deliver 2
 deliver 3
 deliver 4
 ",
+    status: Status::Done,
     text: b"event 1 ok
 invoke 7.1
 packet 1 c7 s1 write 1 5 61
@@ -320,6 +399,7 @@ deliver 15
 deliver 12
 deliver 18
 ",
+    status: Status::Done,
     text: b"event 1 ok
 invoke 7.1
 packet 1 c7 s1 write 1 5 61
@@ -382,6 +462,7 @@ remove 2
 deliver 7
 deliver 9
 ",
+    status: Status::Done,
     text: b"event 1 ok
 invoke 7.1
 packet 1 c7 s1 write 1 5 61
@@ -419,6 +500,7 @@ remove 0
 deliver 4
 deliver 3
 ",
+    status: Status::Done,
     text: b"event 1 ok
 invoke 7.1
 packet 1 c7 s1 write 1 5 61
@@ -455,6 +537,7 @@ deliver 3
 deliver 7
 tick 0
 ",
+    status: Status::Done,
     text: b"event 1 ok
 invoke 7.1
 packet 1 c7 s1 write 1 5 61
@@ -499,6 +582,7 @@ read 7 1 2
 write 7 1 61 1
 write 7 1 61 1
 ",
+    status: Status::Done,
     text: b"event 1 barred Live
 event 2 ok
 event 3 barred Last
@@ -517,7 +601,46 @@ end
 };
 
 /// All of them.
-pub const ROWS: [Row; 13] = [
+/// A group alone.
+const NO_EVENT: Row = Row {
+    schedule: b"group chain 1\n",
+    status: Status::Done,
+    text: b"order 0\nend\n",
+};
+
+/// No line at all.
+const NO_GROUP: Row = Row {
+    schedule: b"",
+    status: Status::BadLine {
+        line: 1,
+        reason: LineReason::Word,
+    },
+    text: b"bad 1 Word\n",
+};
+
+/// A setup line behind one that it stands before.
+const TABLE_BEHIND_A_LOG: Row = Row {
+    schedule: b"group chain 2\nlife 9\nlog 3\ntable 1 1\nread 8 5 1\n",
+    status: Status::BadLine {
+        line: 4,
+        reason: LineReason::Word,
+    },
+    text: b"bad 4 Word\n",
+};
+
+/// A line outside the grammar behind an event.
+const UNKNOWN_WORD: Row = Row {
+    schedule: b"group chain 1\nread 8 5 1\nfoo\nnext\n",
+    status: Status::BadLine {
+        line: 3,
+        reason: LineReason::Word,
+    },
+    text: b"event 1 ok\ninvoke 8.1\npacket 1 c8 s1 read 1 5\nbad 3 Word\n",
+};
+
+pub const ROWS: [Row; 19] = [
+    WRITE_THEN_READ,
+    READ_BEFORE_A_COMPLETION,
     CHAIN_PUT_REPEATED,
     CHAIN_WRITE_UNDER_TWO_NUMBERS,
     CHAIN_OBJECT_STILL_DIRTY,
@@ -531,4 +654,8 @@ pub const ROWS: [Row; 13] = [
     CHAIN_PAGE_OF_AN_OLD_EPOCH,
     CHAIN_LOST_AND_REPEATED,
     BARS,
+    NO_EVENT,
+    NO_GROUP,
+    TABLE_BEHIND_A_LOG,
+    UNKNOWN_WORD,
 ];

@@ -1,6 +1,6 @@
-use hm_frame::memory::{MemorySink, MemorySource};
-use hm_frame::outside::{Failed, Source};
-use hm_frame::sure::{SureSink, SureSource};
+use hm_outside::device::{Failed, Source};
+use hm_outside::memory::{MemorySink, MemorySource};
+use hm_outside::sure::{SureSink, SureSource};
 use hm_show::show::{MAX_FRAMES, Shown, show};
 use hm_wire::malformed::{Malformed, Reason};
 use std::alloc::Global;

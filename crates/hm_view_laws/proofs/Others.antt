@@ -23,9 +23,6 @@ pub record Rests (c : Group) (g h : Ghost) (q : ℕ) : Type 0 where
   pub log : (v : ℕ) → c.leader v ≡ q → (h.leads v).log ≡ (g.leads v).log
   pub cast : (v : ℕ) → (h.polls v).cast q ≡ (g.polls v).cast q
 
-pub rests_same : (c : Group) (g : Ghost) (q : ℕ) → Rests c g g q
-rests_same c g q = record { held = λ v. refl; begun = λ v e. refl; log = λ v e. refl; cast = λ v. refl }
-
 pub rests_lead : (c : Group) (g : Ghost) (v : ℕ) (x : Lead) (q : ℕ) → x.held q ≡ (g.leads v).held q → (c.leader v ≡ q → x.begun ≡ (g.leads v).begun) → (c.leader v ≡ q → x.log ≡ (g.leads v).log) → Rests c g (set_lead g v x) q
 rests_lead c g v x q held begun log = record {
   held = put_same (λ (y : Lead). y.held q) g.leads v x held;

@@ -47,9 +47,6 @@ module _ (Q : Ghost → Message → Type 0) (stays : Stays Q) (c : Group) (g : G
         commits = commit_holds;
       }
 
-      pub pages_hold : All (Fits c g) (pages r)
-      pages_hold = All-map (Fits c g) (page_to r r.start r.known) (others r) (λ k d l. page_to_holds _)
-
   pub vote_holds : r.status ≡ Change → (g.polls r.view).cast n ≡ Some (own_vote r)
   vote_holds change = let old : ChangeHolds c g n r.view (own_vote r) × VotesHold c g r.view (vote_of r) × (r.staged ≡ None) = status_as c g n r change own.status in old.0.mine
 

@@ -4,9 +4,7 @@ use Rattle.std.proofs.lemmas.List.Elements.{All-cons, All-nil}
 use Rattle.std.proofs.Common.{List, [], ap, length, subst, sym, true, ℕ, ◌++◌, ◌<◌, ◌∙◌, ◌∷◌, ◌≡◌}
 use Rattle.std.proofs.lemmas.Bool.{eqb-true}
 use Rattle.hm_base.specs.declared.why.Why.{Why}
-use Rattle.hm_base.proofs.ListLaws.{All-prefix}
 use Rattle.hm_core_laws.proofs.Members.{numbers-length}
-use Rattle.hm_core_laws.specs.Sourced.{IsSourced}
 use Rattle.hm_packet.specs.Messages.{Message}
 use Rattle.hm_rules.specs.Replica.{Replica}
 use Rattle.hm_rules.specs.Replica.Status.{Normal}

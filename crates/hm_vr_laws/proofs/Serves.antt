@@ -6,16 +6,14 @@ use Rattle.std.proofs.lemmas.Bool.{and_parts, cond_both, eqb-true, false≢true,
 use Rattle.std.proofs.lemmas.List.{length-take-le}
 use Rattle.hm_base.proofs.ListLaws.{each_at, prefix_at, prefix_at_back, prefix_take, filter_at, last_stands}
 use Rattle.hm_base.specs.Lists.{IsPrefix}
-use Rattle.hm_base.specs.Logs.{end_stamp, greatest_request, is_put, is_write, latest, read_behind, writes}
-use Rattle.hm_base.specs.Stamps.{◌≺◌}
-use Rattle.hm_base.specs.Verdicts.{admission, judge, judged}
+use Rattle.hm_base.specs.Logs.{is_put, is_write, latest, read_behind, writes}
+use Rattle.hm_base.specs.Verdicts.{admission, judge}
 use Rattle.hm_base.specs.declared.entry.Act.{Act}
 use Rattle.hm_base.specs.declared.entry.Entry.{Entry}
 use Rattle.hm_base.specs.declared.operation.Answer.{Answer}
 use Rattle.hm_base.specs.declared.operation.OpId.{OpId}
 use Rattle.hm_base.specs.declared.stamp.Stamp.{Stamp}
 use Rattle.hm_base.specs.declared.verdict.Admit.{Admit}
-use Rattle.hm_base.specs.declared.verdict.LatestRequest.{LatestRequest}
 use Rattle.hm_base.specs.declared.verdict.Verdict.{Verdict}
 use Rattle.hm_core_laws.specs.Core.{Core}
 use Rattle.hm_core_laws.specs.Later.{StaysTrue}
@@ -157,7 +155,7 @@ module _ (w : World) (core : Core w) (before : Ghost) (n : ℕ) (small : n < len
           let invoked : want_of w.history (op_of e) ≡ Some (wanted e.object e.act) = each_at (WasInvoked w.history) w.declared index e core.agree.records.invoked (prefix_at index e applied_is here) in
           let object : e.object ≡ read.object = look_object e.object read.object e.act reads (some_same (sym invoked ∙ ap (λ (o : OpId). want_of w.history o) operation ∙ was)) in
           says reply tt (subst (λ (o : ℕ). IsDueNow w.history (op read.client read.request) (latest (applied r) o)) object
-              (subst (λ (o : OpId). IsDueNow w.history o (latest (applied r) e.object)) operation (h.laws.look w.history w.declared (applied r) index e core.agree.records core.agree.looks applied_is here reads))) refl)
+          (subst (λ (o : OpId). IsDueNow w.history o (latest (applied r) e.object)) operation (h.laws.look w.history w.declared (applied r) index e core.agree.records core.agree.looks applied_is here reads))) refl)
         where
           look_object : (a b : ℕ) (x : Act) → is_put x ≡ false → wanted a x ≡ want.Read b → a ≡ b
           look_object a b (act.Put v) e s = absurd (false≢true (sym e))

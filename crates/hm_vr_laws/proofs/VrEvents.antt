@@ -3,7 +3,7 @@ use Rattle.std.proofs.lemmas.List.Elements.{All-append, All-weaker}
 use Rattle.std.specs.Prelude.{IsTrue}
 use Rattle.std.proofs.Common.{List, ap, length, subst, sym, ℕ, ◌∙◌}
 use Rattle.std.proofs.lemmas.Bool.{false≢true}
-use Rattle.hm_base.proofs.ListLaws.{prefix_append, prefix_same}
+use Rattle.hm_base.proofs.ListLaws.{prefix_append}
 use Rattle.hm_base.specs.Lists.{IsPrefix}
 use Rattle.hm_core_laws.specs.Changes.{Change, IsQuiet, is_quiet}
 use Rattle.hm_core_laws.specs.Core.{Core}

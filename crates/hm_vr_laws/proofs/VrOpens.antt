@@ -1,15 +1,14 @@
 -- A group of Viewstamped Replication of odd size is sound before its first event.
 use Rattle.std.proofs.lemmas.List.Elements.{All-nil}
-use Rattle.std.specs.Prelude.{Bool, nat_lt, slice_get, ◌-◌, ◌/◌}
-use Rattle.std.proofs.Common.{Some, [], ap, arith, length, refl, subst, suc, sym, take, true, zero, ℕ, ◌*◌, ◌+◌, ◌<◌, ◌∙◌, ◌≡◌, ◌≤◌}
+use Rattle.std.specs.Prelude.{Bool, nat_lt, ◌-◌, ◌/◌}
+use Rattle.std.proofs.Common.{[], ap, arith, length, refl, subst, suc, sym, take, true, zero, ℕ, ◌*◌, ◌+◌, ◌<◌, ◌∙◌, ◌≡◌, ◌≤◌}
 use Rattle.std.proofs.lemmas.Bool.{false≢true}
 use Rattle.std.proofs.lemmas.List.{length-map}
 use Rattle.std.proofs.lemmas.Option.{none-some}
-use Rattle.hm_base.proofs.ListLaws.{prefix_nil, map_at}
+use Rattle.hm_base.proofs.ListLaws.{prefix_nil}
 use Rattle.hm_base.specs.declared.node.GroupKind.TheVariants.{Vr}
 use Rattle.hm_core_laws.proofs.Members.{numbers-length}
 use Rattle.hm_core_laws.specs.Sourced.{IsSourced}
-use Rattle.hm_order.specs.Marks.{At}
 use Rattle.hm_rules.specs.Events.{Setup}
 use Rattle.hm_rules.specs.Numbers.{numbers_from}
 use Rattle.hm_rules.specs.Replica.{Replica, acked_by, opened}

@@ -5,7 +5,7 @@ use Rattle.std.proofs.Common.{List, None, Option, Some, [], ap, length, refl, su
 use Rattle.std.proofs.lemmas.Bool.{cond_both, eq-eqb, not-false, or_left, or_right}
 use Rattle.std.proofs.lemmas.List.{length-set}
 use Rattle.std.proofs.lemmas.Option.{slice_get_within}
-use Rattle.hm_base.proofs.ListLaws.{each_in, prefix_append, prefix_same, prefix_take, prefix_then}
+use Rattle.hm_base.proofs.ListLaws.{each_in, prefix_append, prefix_take, prefix_then}
 use Rattle.hm_base.specs.Lists.{IsIn, IsPrefix}
 use Rattle.hm_base.specs.Taking.{held}
 use Rattle.hm_base.specs.declared.entry.Entry.{Entry}

@@ -26,7 +26,7 @@ use Rattle.hm_world.specs.declared.state.State.{State}
 use Rattle.hm_schedule.specs.Setups.{event_of}
 use Rattle.hm_world.specs.Slotted.{Seen}
 use Rattle.hm_world.specs.Running.{Running, switches_in, tables_in, slots_in, full_in, IsTurn}
-use Rattle.hm_world.specs.StateFields.{world_of, slotted_of, Keeps, Quietly, Ends}
+use Rattle.hm_world.specs.StateFields.{world_of, slotted_of, arrives, Keeps, Quietly, Ends}
 
 -- ---- an event that no switch has to do with
 
@@ -56,9 +56,6 @@ pub take_quietly : (old new : State) (o : Outcome) (e known : Event) → e ≡ k
 take_quietly old new o e known is q = subst (λ (v : Event). Ends old new o (slot_happens (slotted_of old) (event_of v))) (sym is) (ends_quietly old new o (slot_happens (slotted_of old) (event_of known)) q)
 
 -- at the arrival of a packet
-abbrev arrives : State → Message → Node → Happened
-arrives old m d = to_node (finds_full_in (slotted_of old) (number d) m.body) (world_of old) m d
-
 pub deliver_quietly : (old new : State) (o : Outcome) (m : Message) (d known : Node) → d ≡ known → Quietly old new o (arrives old m known) → Ends old new o (arrives old m d)
 deliver_quietly old new o m d known is q = subst (λ (n : Node). Ends old new o (arrives old m n)) (sym is) (ends_quietly old new o (arrives old m known) q)
 

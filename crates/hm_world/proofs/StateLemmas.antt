@@ -23,7 +23,7 @@ use Rattle.hm_rules.specs.World.{World, Happened, sent_at, switch_at}
 use Rattle.hm_rules.specs.Deliveries.{to_switch, to_node, deliver}
 use Rattle.hm_rules.specs.Happens.{passed, next}
 use Rattle.hm_world.specs.declared.state.State.{State}
-use Rattle.hm_world.specs.StateFields.{world_of, slotted_of, IsKept, IsBegun, Keeps, Quietly, Ends}
+use Rattle.hm_world.specs.StateFields.{world_of, slotted_of, arrives, IsKept, IsBegun, Keeps, Quietly, Ends}
 use Rattle.hm_world.proofs.SlotLemmas.{ends_quietly}
 
 -- ---- between events
@@ -87,7 +87,7 @@ full_once_passed old n (body.Write write) = refl
 full_once_passed old n other = refl
 
 abbrev arriving : State → Message → Happened
-arriving s m = to_node (finds_full_in (slotted_of s) (number m.dst) m.body) (world_of s) m m.dst
+arriving s m = arrives s m m.dst
 
 passed_ends : (old new : State) (o : Outcome) (m : Message) → Ends (passed_to old) new o (arriving (passed_to old) m) → Ends old new o (next (finds_full_in (slotted_of old) (number m.dst) m.body) (world_of old) (Some m))
 passed_ends old new o m e =

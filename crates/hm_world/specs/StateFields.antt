@@ -1,12 +1,17 @@
 -- The rules' world for a state, what holds of a state between events and in one, and how an event ends.
-use Rattle.std.specs.Prelude.{◌≡◌, ℕ, ◌+◌, ◌*◌, ◌<◌, ◌≤◌, length, vec_len, vec_capacity}
+use Rattle.std.specs.Prelude.{◌≡◌, ℕ, ◌+◌, ◌*◌, ◌<◌, ◌≤◌, length, Option, vec_len, vec_capacity}
+use Rattle.hm_base.specs.declared.node.Node.{Node}
 use Rattle.hm_base.specs.Lists.{IsPrefix}
 use Rattle.hm_core_laws.specs.Changes.{IsStep}
 use Rattle.hm_core_laws.specs.Owed.{declared_by}
 use Rattle.hm_packet.specs.declared.outcome.Outcome.{Outcome}
+use Rattle.hm_packet.specs.Messages.{Message}
 use Rattle.hm_packet.specs.Steps.{max_outs}
 use Rattle.hm_rules.specs.ReplicaSteps.{Stepped}
-use Rattle.hm_rules.specs.Runs.{Slotted, slotted_after}
+use Rattle.hm_rules.specs.Deliveries as arrival
+use Rattle.hm_rules.specs.Happens as rules
+use Rattle.hm_rules.specs.Runs.{Slotted, slotted_after, finds_full_in, finds_full_with}
+use Rattle.hm_rules.specs.Senders.{number}
 use Rattle.hm_rules.specs.World as rule
 use Rattle.hm_schedule.specs.Limits.{max_events}
 use Rattle.hm_world.specs.Running.{switches_in, slots_in}
@@ -19,6 +24,23 @@ world_of s =
 -- the rules' world with the slots of its switches
 abbrev pub slotted_of : State → Slotted
 slotted_of s = record { world = world_of s; slots = slots_in s.switches }
+
+-- ---- what the rules give, with a write refused exactly where the slots of its switch are full
+
+-- a packet that was sent arrives, if there is one
+abbrev pub delivered : State → Option Message → rule.Happened
+delivered s o = arrival.deliver (finds_full_with (slotted_of s) o) (world_of s) o
+
+-- the same once the cursor has passed it
+abbrev pub passed_on : State → Option Message → rule.Happened
+passed_on s o = rules.next (finds_full_with (slotted_of s) o) (world_of s) o
+
+-- it arrives at a node, and at a switch
+abbrev pub arrives : State → Message → Node → rule.Happened
+arrives s m node = arrival.to_node (finds_full_in (slotted_of s) (number node) m.body) (world_of s) m node
+
+abbrev pub switched : State → Message → ℕ → rule.Happened
+switched s m switch = arrival.to_switch (finds_full_in (slotted_of s) switch m.body) (world_of s) m switch (rule.switch_at (world_of s) switch)
 
 -- ---- between events
 

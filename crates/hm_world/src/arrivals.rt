@@ -1,8 +1,6 @@
 ghost use Rattle.std.specs.Prelude.{◌≡◌, slice_get};
 ghost use Rattle.hm_base.specs.Lists.{IsIn};
 ghost use Rattle.hm_rules.specs.World as rule;
-ghost use Rattle.hm_rules.specs.Runs.{finds_full_in, finds_full_with};
-ghost use Rattle.hm_rules.specs.Senders as senders;
 ghost use Rattle.hm_rules.specs.Deliveries as arrival;
 ghost use Rattle.hm_rules.specs.Happens as rules;
 ghost use Rattle.hm_rules.specs.Service as service;
@@ -16,12 +14,12 @@ use hm_packet::packet::Packet;
 use hm_packet::turn::Turn;
 
 impl State {
-    ghost use Rattle.hm_world.specs.StateFields.{world_of, slotted_of, IsBegun, Quietly, Ends};
+    ghost use Rattle.hm_world.specs.StateFields.{world_of, delivered, passed_on, arrives, switched, IsBegun, Quietly, Ends};
 
     /// The packet of this number arrives, whether or not it did before.
     pub(crate) fn deliver_again(&mut self, number: u32, acted: &mut Acted) -> Outcome
         requires { IsBegun self.old }
-        ensures { Ends self.old self.new result (arrival.deliver (finds_full_with (slotted_of self.old) (rule.sent_at (world_of self.old) number)) (world_of self.old) (rule.sent_at (world_of self.old) number)) }
+        ensures { Ends self.old self.new result (delivered self.old (rule.sent_at (world_of self.old) number)) }
     {
         match self.sent(number) {
             None => Outcome::NotAllowed(Bar::NoPacket),
@@ -35,7 +33,7 @@ impl State {
     /// The packet at the cursor arrives, if there is one.
     pub(crate) fn next(&mut self, acted: &mut Acted) -> Outcome
         requires { IsBegun self.old }
-        ensures { Ends self.old self.new result (rules.next (finds_full_with (slotted_of self.old) (slice_get self.old.net.packets self.old.net.cursor)) (world_of self.old) (slice_get self.old.net.packets self.old.net.cursor)) }
+        ensures { Ends self.old self.new result (passed_on self.old (slice_get self.old.net.packets self.old.net.cursor)) }
     {
         match self.net.at(self.net.cursor()) {
             None => Outcome::NotAllowed(Bar::NoPacket),
@@ -65,7 +63,7 @@ impl State {
     fn deliver(&mut self, packet: &Packet, acted: &mut Acted) -> Outcome
         requires begun { IsBegun self.old }
         requires sent { IsIn packet.now self.old.net.packets }
-        ensures { Ends self.old self.new result (arrival.to_node (finds_full_in (slotted_of self.old) (senders.number packet.now.dst) packet.now.body) (world_of self.old) packet.now packet.now.dst) }
+        ensures { Ends self.old self.new result (arrives self.old packet.now packet.now.dst) }
     {
         match packet.dst {
             Node::Client(number) => self.to_client(number, &packet.body),
@@ -78,7 +76,7 @@ impl State {
     /// A packet arrives at a switch.
     fn to_switch(&mut self, number: u32, packet: &Packet) -> Outcome
         requires { IsBegun self.old }
-        ensures { Ends self.old self.new result (arrival.to_switch (finds_full_in (slotted_of self.old) number packet.now.body) (world_of self.old) packet.now number (rule.switch_at (world_of self.old) number)) }
+        ensures { Ends self.old self.new result (switched self.old packet.now number) }
     {
         if !self.switches.is_started(number) {
             return Outcome::Ignored(Why::Gone);

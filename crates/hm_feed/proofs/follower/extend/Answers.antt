@@ -1,8 +1,9 @@
-use Rattle.std.proofs.Common.{◌≡◌, ℕ, ◌≤◌, List, [], ◌∷◌, ◌++◌, length, Some, None, sym, ap, ◌∙◌, arith}
+use Rattle.std.proofs.Common.{◌≡◌, ℕ, ◌<◌, List, [], ◌∷◌, ◌++◌, length, Some, None, sym, ap, ◌∙◌, arith}
 use Rattle.std.specs.Prelude.{slice_get}
 use Rattle.hm_base.specs.declared.entry.Entry.{Entry}
 use Rattle.hm_shim.specs.State.{State}
-use Rattle.hm_store.proofs.Parts.{past_end}
+use Rattle.std.proofs.lemmas.Option.{none-some}
+use Rattle.hm_base.proofs.ListLaws.{there_is}
 use Rattle.hm_feed.proofs.Parts.{one_more}
 use Rattle.hm_feed.proofs.follower.extend.Goals as goal
 use Rattle.hm_feed.proofs.follower.extend.Goals.{in-Some, in-None}
@@ -19,6 +20,7 @@ loop-i-preserved c =
           ∙ ap (λ (l : List Entry). record before { entries = l }) (one_more before.entries entries c.args.from i w.in-Some.entry c.loop-i.auto.i found)
       | in-None w ↦
           let none : slice_get entries i ≡ None = sym c.get.ensures ∙ w.in-None.is in
-          let past : length entries ≤ i = past_end entries i none in
-          absurd (omega arith)
+          let inside : i < length entries = omega arith in
+          let there = there_is entries i inside in
+          absurd (none-some there.0 (sym none ∙ there.1))
     ]

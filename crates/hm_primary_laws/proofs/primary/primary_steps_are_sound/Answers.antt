@@ -9,6 +9,7 @@ returns c = λ w core primary n s x.
       whole = c.whole_list_answer_is_due.ensures;
       ahead = c.answer_ahead_is_due.ensures;
       write_tidy = c.admitted_write_keeps_tidy.ensures;
+      rests = c.quiet_step_is_sound.ensures.rests;
       answers_sent = c.declared_answers_are_true.ensures.senders;
       answers_true = c.declared_answers_are_true.ensures.holds;
       stays = c.true_packet_stays_true.ensures;

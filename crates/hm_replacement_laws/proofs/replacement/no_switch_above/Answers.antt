@@ -1,4 +1,4 @@
-use Rattle.std.proofs.Common.{ℕ, ◌≤◌, arith}
+use Rattle.std.proofs.Common.{◌≤◌, arith}
 use Rattle.hm_replacement_laws.proofs.replacement.no_switch_above.Goals as goal
 
 pub returns : goal.returns

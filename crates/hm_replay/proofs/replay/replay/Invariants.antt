@@ -1,4 +1,4 @@
-use Rattle.std.proofs.Common.{◌≤◌, ◌-◌}
+use Rattle.std.proofs.Common.{◌≡◌, ◌-◌}
 use Rattle.hm_schedule.specs.Limits.{max_events}
 use Rattle.hm_replay.proofs.Progress.{Ahead}
 use Rattle.hm_replay.proofs.replay.replay.Given as goal
@@ -6,8 +6,8 @@ use Rattle.hm_replay.proofs.replay.replay.Given as goal
 abbrev pub invariant-loop-next : goal.invariant-loop-next
 invariant-loop-next g l = record {
   run : Ahead l.world l.opening.lines l.next l.reader.ahead (g.S.Source.left l.fn.source) (g.S.Source.left l.source) (g.K.Sink.held l.fn.sink) (g.K.Sink.held l.sink);
-  read_later : g.S.Source.faults l.fn.source ≤ g.S.Source.faults l.source;
-  put_later : g.K.Sink.faults l.fn.sink ≤ g.K.Sink.faults l.sink;
+  read : g.S.Source.faults l.source ≡ g.S.Source.faults l.fn.source;
+  put : g.K.Sink.faults l.sink ≡ g.K.Sink.faults l.fn.sink;
 }
 
 abbrev pub decreases-loop-next : goal.decreases-loop-next

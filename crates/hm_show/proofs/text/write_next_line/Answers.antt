@@ -1,4 +1,4 @@
-use Rattle.std.proofs.Common.{◌≡◌, Bool, List, ℕ, Ok, [], ◌∷◌, ◌++◌, ap, sym, subst, ◌∙◌}
+use Rattle.std.proofs.Common.{Bool, List, ℕ, Ok, [], ◌∷◌, ◌++◌, ap, sym, subst, ◌∙◌}
 use Rattle.std.specs.Prelude.{decimal}
 use Rattle.hm_packet.specs.Texts.{packet_text}
 use Rattle.hm_show.specs.Steps.{TakesLine}

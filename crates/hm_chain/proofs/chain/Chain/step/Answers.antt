@@ -7,8 +7,6 @@ use Rattle.hm_rules.specs.Senders.{number}
 use Rattle.hm_rules.specs.Chain.{chain_takes, chain_row, chain_step}
 use Rattle.hm_replica.specs.Refusals.{refusal}
 use Rattle.hm_replica.specs.Steps.{step_of}
-use Rattle.hm_replica.proofs.Giving.{gives}
-use Rattle.hm_replica.proofs.Refused.{receives_refused, receives_taken}
 use Rattle.hm_chain.proofs.chain.Chain.step.Goals as goal
 
 -- the answer of the tests, read at the member and the packet as contracts see them
@@ -21,7 +19,7 @@ returns-in-Some c =
     let r : Replica = c.args.self.now in
     let m : Message = c.args.packet.now in
     let found = sym (told r _ m _ c.takes.result c.refusal.result c.self.view_is c.packet.view_is c.takes.ensures c.refusal.ensures) ∙ c.in-Some.is in
-    gives r c.ignore.new.acted (chain_step r m) (ap (λ (a : Acted). step_of r a) c.ignore.ensures ∙ sym (receives_refused chain_takes chain_row r m c.in-Some.why found))
+    c.steps_give_their_parts.ensures r c.ignore.new.acted (chain_step r m) (ap (λ (a : Acted). step_of r a) c.ignore.ensures ∙ sym (c.refused_packets_are_ignored.ensures.refused chain_takes chain_row r m c.in-Some.why found))
 
 pub returns-in-None : goal.returns-in-None
 returns-in-None c =
@@ -30,4 +28,4 @@ returns-in-None c =
     let found = sym (told r _ m _ c.takes.result c.refusal.result c.self.view_is c.packet.view_is c.takes.ensures c.refusal.ensures) ∙ c.in-None.is in
     let sender = c.number.ensures ∙ ap (λ (x : Message). number x.src) c.packet.view_is in
     let row = c.row.ensures ∙ ap (λ (n : ℕ). chain_row r n c.packet.inside.body) sender ∙ ap (λ (x : Message). chain_row r (number m.src) x.body) c.packet.view_is in
-    gives c.row.new.self c.row.new.acted (chain_step r m) (row ∙ sym (receives_taken chain_takes chain_row r m found))
+    c.steps_give_their_parts.ensures c.row.new.self c.row.new.acted (chain_step r m) (row ∙ sym (c.refused_packets_are_ignored.ensures.taken chain_takes chain_row r m found))

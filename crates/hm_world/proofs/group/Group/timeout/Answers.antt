@@ -3,7 +3,7 @@ use Rattle.std.specs.Prelude.{length, slice_get, Some}
 use Rattle.hm_rules.specs.Replica.{Replica}
 use Rattle.hm_rules.specs.Viewstamped.{vr_timeout}
 use Rattle.hm_world.specs.Grouped.{Grouped, IsGroupStep}
-use Rattle.hm_world.specs.GroupFields.{kind_in, grouped_of}
+use Rattle.hm_world.specs.GroupFields.{grouped_of}
 use Rattle.hm_world.proofs.GroupLemmas.{group_step, group_members}
 use Rattle.hm_world.proofs.group.Group.timeout.Goals as goal
 

@@ -1,5 +1,4 @@
-use Rattle.std.proofs.Common.{sym, ◌∙◌}
-use Rattle.hm_world.proofs.SetupLemmas.{lawful}
+use Rattle.std.proofs.Common.{◌∙◌}
 use Rattle.hm_world.proofs.OpenLemmas.{opens_is}
 use Rattle.hm_world.proofs.state.State.open.Goals as goal
 

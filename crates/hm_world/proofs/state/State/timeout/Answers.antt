@@ -1,11 +1,8 @@
-use Rattle.std.proofs.Common.{Bool, true, refl, sym, ap, ◌∙◌, subst}
-use Rattle.std.specs.Prelude.{if◌then◌else◌}
+use Rattle.std.proofs.Common.{refl, sym, ◌∙◌, subst}
 use Rattle.std.proofs.lemmas.Option.{slice_get_within}
 use Rattle.hm_core_laws.specs.Changes.{Origin}
-use Rattle.hm_packet.specs.declared.outcome.Bar.TheVariants as bar
-use Rattle.hm_rules.specs.Deliveries.{at_replica}
 use Rattle.hm_rules.specs.Viewstamped.{vr_timeout}
-use Rattle.hm_rules.specs.World.{Happened, barred}
+use Rattle.hm_rules.specs.World.{Happened}
 use Rattle.hm_world.specs.StateFields.{world_of, Quietly}
 use Rattle.hm_world.proofs.LiveLemmas.{live, acts, front, step_there, room_stepped, times_out}
 use Rattle.hm_world.proofs.state.State.timeout.Goals as goal

@@ -1,9 +1,0 @@
-use Rattle.std.proofs.Common.{ap}
-use Rattle.hm_frame.proofs.Copied.{fills_from}
-use Rattle.hm_frame.specs.Ends.{Supply}
-use Rattle.hm_frame.proofs.memory.MemorySourceSource.take.Goals as goal
-
-pub returns-clause-bytes : goal.returns-clause-bytes
-returns-clause-bytes c =
-    let front = fills_from _ _ _ _ _ _ _ c.deref-2.ensures.value (ap (λ (s : Supply). s.left) c.self.view_is) c.copy_front-count.ensures.count c.copy_front-count.ensures.copied in
-    (front.consumed, front.end)

@@ -1,0 +1,8 @@
+use Rattle.hm_schedule.proofs.NotNext.{breaks_once, breaks_nowhere}
+use Rattle.hm_schedule.proofs.law.bytes_break_off_once.Goals as goal
+
+pub returns-clause-once : goal.returns-clause-once
+returns-clause-once c = breaks_once
+
+pub returns-clause-nowhere : goal.returns-clause-nowhere
+returns-clause-nowhere c = breaks_nowhere
