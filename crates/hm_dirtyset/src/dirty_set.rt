@@ -25,8 +25,9 @@ pub const MAX_BITS: u8 = 12;
 /// 2^0 to 2^12 slots; an object has one slot in each stage. All memory is taken at opening. Contracts see the slots,
 /// the point and the greatest number put.
 ///
-/// A slot keeps what it held when that falls to the point or below, until it is taken again. The slots that hold
-/// anything are linked in the order in which they took their numbers.
+/// A slot keeps what it held when that falls to the point or below, until it is taken again; it is no slot to the
+/// contracts then. `by_number` is to link the slots that hold anything in the order of their numbers: nothing reads it,
+/// and nothing is claimed of it but how many cells it has.
 #[derive(Drop)]
 pub struct DirtySet {
     slots: Vec<Slot>,
@@ -114,7 +115,8 @@ impl DirtySet {
         })
     }
 
-    /// The object's live number, None exactly where it has none. It looks at one slot in each stage at most.
+    /// The object's live number, None exactly where it has none. It counts at most one step for each stage, and a step is
+    /// counted at each look at a slot.
     pub fn get<L: StepLedger>(&self, object: u32, steps: &mut Steps<L>) -> Option<u64>
         ensures number { result ≡ live_number self.now object }
         ensures steps { TakesAtMost L.counts steps.old steps.new self.now.stages }

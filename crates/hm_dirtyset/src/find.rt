@@ -17,7 +17,8 @@ pub enum Found {
     Full,
 }
 
-/// One look at a slot. No slot is read in another way.
+/// One look at a slot, which counts as a step. An object's slots are looked at in no other way; `live` alone walks over
+/// all of them.
 fn look<L: StepLedger>(slots: &[Slot], at: u32, steps: &mut Steps<L>) -> Slot
     requires { at < length slots.now }
     ensures slot { slice_get slots.now at ≡ Some result }

@@ -85,7 +85,7 @@ impl Switch {
     }
 
     /// One packet at the switch: it does what the rules say of every switch that it stands for, and refuses a write exactly
-    /// where its slots are full for the object. It takes no memory, and looks at one slot in each stage at most.
+    /// where its slots are full for the object. It takes no memory.
     pub fn step(&mut self, packet: &Packet) -> Turn
         ensures { (s : AbstractSwitch) → StandsFor self.old s → TurnsTo self.old self.new result s (rule.switch_step (refuses self.old packet.now) s packet.now) }
     {
