@@ -6,4 +6,3 @@ mod ChainLater
 mod ChainGroups
 mod ChainEvents
 mod ChainOpens
-pub mod ChainRuns
