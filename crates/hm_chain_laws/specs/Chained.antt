@@ -15,7 +15,6 @@ use Rattle.hm_rules.specs.Senders.{number}
 use Rattle.hm_rules.specs.Replica.{Replica}
 use Rattle.hm_rules.specs.Chain.{is_tail}
 use Rattle.hm_rules.specs.World.{World, is_stopped}
-use Rattle.hm_core_laws.specs.Core.{Core}
 use Rattle.hm_core_laws.specs.Epochs.{HasMember, EpochsHold}
 
 -- ---- replicas
@@ -64,8 +63,3 @@ pub record ChainHolds (w : World) : Type 0 where
   pub prefix : (n : ℕ) (r : Replica) → At w.replicas n r → is_stopped w n ≡ false → IsPrefix w.declared r.log
   -- a live tail holds the declared list
   pub tail : (n : ℕ) (r : Replica) → At w.replicas n r → is_stopped w n ≡ false → is_tail r ≡ true → r.log ≡ w.declared
-
--- what every event keeps
-pub record IsSound (w : World) : Type 0 where
-  pub core : Core w
-  pub chain : ChainHolds w

@@ -1,15 +1,15 @@
-pub mod Laws
-pub mod Sources
-pub mod HoldsLater
-pub mod Switches
+mod Laws
+mod Sources
+mod HoldsLater
+mod Switches
 mod Switching
 mod Clients
-pub mod CoreGrows
+mod CoreGrows
 mod SameMessages
-pub mod CoreEvents
-pub mod CoreOpens
-pub mod Changes
-pub mod StepParts
-pub mod Declaring
+mod CoreEvents
+mod CoreOpens
+mod Changes
+mod StepParts
+mod Declaring
 pub mod Members
-pub mod EpochSteps
+mod EpochSteps

@@ -1,10 +1,10 @@
-pub mod Tidies
-pub mod Commits
-pub mod LastWrites
-pub mod Due
-pub mod ReadAnswers
-pub mod Requests
-pub mod Later
-pub mod Agreeing
-pub mod Fresh
+mod Tidies
+mod Commits
+mod LastWrites
+mod Due
+mod ReadAnswers
+mod Requests
+mod Later
+mod Agreeing
+mod Fresh
 mod Examples

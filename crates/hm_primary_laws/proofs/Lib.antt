@@ -1,13 +1,13 @@
 mod Laws
-pub mod Firsts
-pub mod Grows
-pub mod Moves
-pub mod Changes
-pub mod Counting
-pub mod Commits
-pub mod Parts
-pub mod Answering
-pub mod Feeding
-pub mod Rows
-pub mod Events
-pub mod Opens
+mod Firsts
+mod Grows
+mod Moves
+mod Changes
+mod Counting
+mod Commits
+mod Parts
+mod Answering
+mod Feeding
+mod Rows
+mod Events
+mod Opens

@@ -1,3 +1,3 @@
 mod Services
-pub mod Opens
-pub mod Kept
+mod Opens
+mod Kept

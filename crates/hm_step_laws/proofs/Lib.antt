@@ -2,5 +2,5 @@ mod Parts
 mod ChainKeeps
 mod PrimaryKeeps
 mod ViewKeeps
-pub mod VrKeeps
-pub mod AnyKeeps
+mod VrKeeps
+mod AnyKeeps

@@ -1,10 +1,10 @@
 mod Laws
-pub mod Saying
-pub mod Here
-pub mod Enters
-pub mod Feeds
-pub mod Views
-pub mod Serves
-pub mod VrSteps
-pub mod VrEvents
-pub mod VrOpens
+mod Saying
+mod Here
+mod Enters
+mod Feeds
+mod Views
+mod Serves
+mod VrSteps
+mod VrEvents
+mod VrOpens
