@@ -1,12 +1,11 @@
 -- A schedule is replayed whole, and other bytes to where they break off.
-use Rattle.std.proofs.Common.{◌≡◌, ℕ, ◌+◌, List, [], ◌++◌, length, Option, Some, None, ◌⊎◌, inl, inr, refl, sym, ap, subst, ◌∙◌, arith}
+use Rattle.std.proofs.Common.{◌≡◌, ℕ, ◌+◌, List, ◌++◌, length, Option, Some, None, ◌⊎◌, inl, inr, refl, sym, ap, subst, ◌∙◌, arith}
 use Rattle.std.specs.Prelude.{IfSome}
 use Rattle.std.specs.Io.KnownBytes.{Consumes, IsAtEnd}
 use Rattle.std.proofs.lemmas.List.{append-nil}
 use Rattle.hm_outside.specs.Faults.{Faults, one_more, Rose}
 use Rattle.hm_schedule.specs.Orders.{IsBegun, IsSchedule, BreaksOff, lines_text}
 use Rattle.hm_schedule.specs.declared.line.Line.{Line}
-use Rattle.hm_schedule.specs.declared.line.LineReason.{LineReason}
 use Rattle.hm_schedule.specs.declared.line.LineReason.TheVariants.{Word}
 use Rattle.hm_replay.specs.Statuses.{Ends}
 use Rattle.hm_replay.specs.declared.status.Status.{Status}

@@ -1,5 +1,5 @@
 -- How far a replay has come, and how it ends from there.
-use Rattle.std.proofs.Common.{◌≡◌, ◌≢◌, ℕ, ◌+◌, ◌-◌, ◌^◌, ◌<◌, ◌≤◌, min, List, [], ◌∷◌, ◌++◌, length, Option, Some, None, Result, Ok, Err, refl, sym, ap, subst, ◌∙◌, inl, inr, append_assoc, arith}
+use Rattle.std.proofs.Common.{◌≡◌, ◌≢◌, ℕ, ◌+◌, ◌<◌, ◌≤◌, List, [], ◌∷◌, ◌++◌, length, Option, Some, None, Result, Ok, Err, refl, sym, ap, subst, ◌∙◌, inl, inr, append_assoc, arith}
 use Rattle.std.specs.Prelude.{IfSome}
 use Rattle.std.proofs.lemmas.List.{append-nil, length-append}
 use Rattle.std.specs.Io.KnownBytes.{Consumes, Appends}
@@ -20,11 +20,10 @@ use Rattle.hm_schedule.specs.Reasons.{reason_text}
 use Rattle.hm_schedule.specs.declared.line.Line.{Line}
 use Rattle.hm_schedule.specs.declared.line.Line.TheVariants as line
 use Rattle.hm_schedule.specs.declared.line.LineReason.{LineReason}
-use Rattle.hm_schedule.specs.declared.line.LineReason.TheVariants.{Word}
 use Rattle.hm_schedule.specs.Lines.{Moves}
-use Rattle.hm_schedule.specs.Openings.{Says, max_opening, opening_bound}
+use Rattle.hm_schedule.specs.Openings.{max_opening, opening_bound}
 use Rattle.hm_schedule.specs.Nexts.{ComesBadly, EventComes, Opens, OpensCut}
-use Rattle.hm_replay.specs.Replays.{full_in, world_in, events_text_of, history_in, end_text, ShowsFull, IsCutRun, IsPartialRun, IsClosing}
+use Rattle.hm_replay.specs.Replays.{events_text_of, end_text, ShowsFull, IsCutRun, IsPartialRun, IsClosing}
 use Rattle.hm_outside.specs.Calls.{CallsAddUp}
 use Rattle.hm_outside.specs.Faults.{Faults, one_more, IsQuiet}
 use Rattle.hm_outside.specs.Puts.{Puts}

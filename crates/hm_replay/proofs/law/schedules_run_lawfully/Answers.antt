@@ -1,13 +1,12 @@
-use Rattle.std.proofs.Common.{◌≡◌, ◌≢◌, ◌≤◌, ◌<◌, ◌^◌, ℕ, List, length, sym, ◌∙◌, arith}
+use Rattle.std.proofs.Common.{◌≡◌, ◌≢◌, ◌≤◌, ◌<◌, ◌^◌, ℕ, length, sym, ◌∙◌, arith}
 use Rattle.std.specs.Prelude.{All}
 use Rattle.std.proofs.lemmas.List.Elements.{All-from_recursion}
 use Rattle.hm_base.specs.declared.node.GroupKind.TheVariants as kind
 use Rattle.hm_rules.specs.Events.{Setup}
 use Rattle.hm_group_laws.specs.Groups.{CanForm}
 use Rattle.hm_schedule.specs.Limits.{max_events}
-use Rattle.hm_schedule.specs.Orders.{IsBegun, setup_in, events_in}
+use Rattle.hm_schedule.specs.Orders.{setup_in, events_in}
 use Rattle.hm_schedule.specs.Reasons.{reason_text}
-use Rattle.hm_schedule.specs.declared.line.Line.{Line}
 use Rattle.hm_schedule.specs.declared.line.LineReason.TheVariants.{Word}
 use Rattle.hm_replay.specs.Replays.{full_in}
 use Rattle.hm_replay.proofs.law.schedules_run_lawfully.Goals as goal

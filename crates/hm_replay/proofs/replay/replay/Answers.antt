@@ -1,4 +1,4 @@
-use Rattle.std.proofs.Common.{◌≡◌, ◌+◌, ◌<◌, ℕ, [], refl, ap, sym, subst, ◌∙◌, arith}
+use Rattle.std.proofs.Common.{◌≡◌, ◌+◌, ◌<◌, ℕ, [], refl, ap, subst, ◌∙◌, arith}
 use Rattle.hm_schedule.specs.Limits.{max_events}
 use Rattle.hm_schedule.specs.Orders.{Stage}
 use Rattle.hm_outside.specs.Faults.{one_more}
