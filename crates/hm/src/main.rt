@@ -26,7 +26,7 @@ fn refusal(error: &Error) -> Status
 }
 
 /// Writes what is left of the output. Where that fails, the sink did.
-fn flushed<W: Write>(output: &mut BufWriter<W>, status: Status) -> Status
+fn flushed<W: Write + Drop>(output: &mut BufWriter<W>, status: Status) -> Status
     ensures status { (result ≡ status) ⊎ (result ≡ Status.WriteFault) }
     ensures written { result ≢ Status.WriteFault → writer_buffer output.new ≡ [] }
 {
