@@ -1,1 +1,1 @@
-pub mod FrameLemmas
+mod FrameLemmas

@@ -1,3 +1,3 @@
 mod Aparts
-pub mod Paths
-pub mod Rings
+mod Paths
+mod Rings

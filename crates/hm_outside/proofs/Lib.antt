@@ -1,2 +1,2 @@
-pub mod Copied
-pub mod KnownBytes
+mod Copied
+mod KnownBytes

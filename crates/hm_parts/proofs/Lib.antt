@@ -1,3 +1,3 @@
-pub mod DeclareLemmas
-pub mod ClientLemmas
-pub mod NetLemmas
+mod DeclareLemmas
+mod ClientLemmas
+mod NetLemmas

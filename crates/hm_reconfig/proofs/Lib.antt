@@ -1,2 +1,2 @@
-pub mod GroupLemmas
+mod GroupLemmas
 mod RefusedLemmas

@@ -1,4 +1,4 @@
-pub mod Settled
-pub mod FullRuns
-pub mod Ends
-pub mod Shown
+mod Settled
+mod FullRuns
+mod Ends
+mod Shown

@@ -1,3 +1,3 @@
-pub mod PacketLines
-pub mod Progress
-pub mod Complete
+mod PacketLines
+mod Progress
+mod Complete

@@ -1,2 +1,2 @@
-pub mod Anys
-pub mod Refused
+mod Anys
+mod Refused

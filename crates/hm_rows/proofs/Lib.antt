@@ -7,3 +7,8 @@ mod Packets
 mod PrimarySteps
 mod ViewstampedSteps
 mod ServiceSteps
+mod ChainRows
+mod PrimaryRows
+mod ViewstampedRows
+mod SwitchRows
+mod Examples

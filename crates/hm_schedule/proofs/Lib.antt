@@ -1,8 +1,8 @@
-pub mod FieldTexts
-pub mod Names
-pub mod LineLemmas
-pub mod BufferParts
-pub mod LineFronts
-pub mod LinePushes
-pub mod NotNext
-pub mod Opened
+mod FieldTexts
+mod Names
+mod LineLemmas
+mod BufferParts
+mod LineFronts
+mod LinePushes
+mod NotNext
+mod Opened

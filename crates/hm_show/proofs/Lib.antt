@@ -1,2 +1,2 @@
-pub mod Complete
-pub mod ShowLemmas
+mod Complete
+mod ShowLemmas

@@ -1,2 +1,2 @@
-pub mod Ends
-pub mod Parts
+mod Ends
+mod Parts

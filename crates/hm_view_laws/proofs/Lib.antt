@@ -1,6 +1,6 @@
 pub mod CountLaws
 pub mod Covered
-pub mod BestVotes
+mod BestVotes
 pub mod Puts
 pub mod Grows
 pub mod Others
@@ -10,9 +10,9 @@ pub mod Longer
 pub mod Begin
 pub mod Lead
 pub mod Reached
-pub mod Quorums
-pub mod Chosen
+mod Quorums
+mod Chosen
 pub mod Sends
 pub mod Ends
-pub mod LogsOf
+mod LogsOf
 pub mod Check

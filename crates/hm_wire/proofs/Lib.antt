@@ -4,6 +4,6 @@ mod PartReaders
 mod BodyReaders
 mod PacketReader
 mod Loops
-pub mod Lengths
-pub mod Decoded
-pub mod Unread
+mod Lengths
+mod Decoded
+mod Unread

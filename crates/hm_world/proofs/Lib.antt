@@ -1,9 +1,9 @@
-pub mod Numbered
-pub mod SlotLemmas
-pub mod GroupLemmas
-pub mod TurnLemmas
-pub mod StateLemmas
-pub mod LiveLemmas
-pub mod SetupLemmas
-pub mod OpenLemmas
-pub mod SoundLemmas
+mod Numbered
+mod SlotLemmas
+mod GroupLemmas
+mod TurnLemmas
+mod StateLemmas
+mod LiveLemmas
+mod SetupLemmas
+mod OpenLemmas
+mod SoundLemmas

@@ -6,7 +6,7 @@ use Rattle.std.specs.Prelude.{codes}
 use Rattle.hm_base.specs.declared.node.GroupKind.TheVariants.{Vr}
 use Rattle.hm_rules.specs.Events.{Event}
 use Rattle.hm_rules.specs.RunText.{run_text}
-use Rattle.hm_rules.proofs.Rows.{group, lines}
+use Rattle.hm_rows.proofs.Rows.{group, lines}
 
 -- a replica that is behind answers a read, whose place is before a later write
 abbrev read_at_a_lagging_replica : List Event

@@ -6,7 +6,7 @@ use Rattle.std.specs.Prelude.{codes}
 use Rattle.hm_base.specs.declared.node.GroupKind.TheVariants.{Chain}
 use Rattle.hm_rules.specs.Events.{Event}
 use Rattle.hm_rules.specs.RunText.{run_text}
-use Rattle.hm_rules.proofs.Rows.{group, lines}
+use Rattle.hm_rows.proofs.Rows.{group, lines}
 
 -- a write, and a stamped read of it
 abbrev write_then_read : List Event

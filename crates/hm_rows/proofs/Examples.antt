@@ -13,8 +13,8 @@ use Rattle.hm_rules.specs.Events.{Event, Setup}
 use Rattle.hm_rules.specs.Votes.{Ballot, ballots_from, best}
 use Rattle.hm_rules.specs.Runs.{full_events}
 use Rattle.hm_rules.specs.RunText.{run_text, refused_events, summary}
-use Rattle.hm_rules.proofs.Rows.{group, lines}
-use Rattle.hm_rules.proofs.SwitchRows.{table_is_full}
+use Rattle.hm_rows.proofs.Rows.{group, lines}
+use Rattle.hm_rows.proofs.SwitchRows.{table_is_full}
 
 places : map (λ stage. place 10 stage 5) (0 ∷ 1 ∷ 2 ∷ []) ≡ 725 ∷ 142 ∷ 576 ∷ []
 places = refl

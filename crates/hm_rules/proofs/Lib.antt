@@ -1,6 +1,0 @@
-mod Rows
-mod ChainRows
-mod PrimaryRows
-mod ViewstampedRows
-mod SwitchRows
-mod Examples
