@@ -1,4 +1,4 @@
-ghost use Rattle.std.specs.Prelude.{◌≡◌, ◌<◌, ◌≤◌, length, slice_get, true, Some, map, IfOk};
+ghost use Rattle.std.specs.Prelude.{◌≡◌, ◌<◌, ◌≤◌, length, slice_get, true, false, Some, map, IfOk};
 ghost use Rattle.hm_rules.specs.Deliveries.{replica_step, replica_tick};
 ghost use Rattle.hm_rules.specs.Replica.{Replica, opened};
 ghost use Rattle.hm_rules.specs.Service.{is_fixed};
@@ -116,11 +116,12 @@ impl Group {
         tick_in(&mut self.members, number, acted);
     }
 
-    /// The replica of a number, in a fixed group, has waited too long for its leader.
+    /// The replica of a number has waited too long for its leader, in a group whose members are fixed; in any other group nothing
+    /// happens.
     pub fn timeout(&mut self, number: u8, acted: &mut Acted)
-        requires there { number < length self.old.replicas }
-        requires fixed { is_fixed self.old.kind ≡ true }
-        ensures { GroupSteps self.old self.new number acted.new vr_timeout }
+        requires { number < length self.old.replicas }
+        ensures step { is_fixed self.old.kind ≡ true → GroupSteps self.old self.new number acted.new vr_timeout }
+        ensures idle { is_fixed self.old.kind ≡ false → self.new ≡ self.old }
     {
         every_step_keeps();
         timeout_in(&mut self.members, number, acted);
@@ -201,14 +202,14 @@ fn tick_in(members: &mut Members, number: u8, acted: &mut Acted)
     }
 }
 
-/// One of these, of a fixed group, has waited too long for its leader.
+/// One of these has waited too long for its leader, where they are fixed.
 fn timeout_in(members: &mut Members, number: u8, acted: &mut Acted)
-    requires there { number < length (replicas_in members.old) }
-    requires fixed { is_fixed (kind_in members.old) ≡ true }
+    requires { number < length (replicas_in members.old) }
     ensures kind { kind_in members.new ≡ kind_in members.old }
-    ensures step { StepsAt (replicas_in members.old) (replicas_in members.new) number acted.new vr_timeout }
+    ensures step { is_fixed (kind_in members.old) ≡ true → StepsAt (replicas_in members.old) (replicas_in members.new) number acted.new vr_timeout }
+    ensures idle { is_fixed (kind_in members.old) ≡ false → members.new ≡ members.old }
 {
     match members {
-        Members::Chain(_) => unreachable!(),
+        Members::Chain(_) => {}
     }
 }
