@@ -2,8 +2,7 @@
 """Measures the program against another one, given by its path: examples/measure.py OTHER [RUNS] [SCHEDULE..]
 
 Both replay the same schedules, in turn, so that a busy machine is unkind to both alike. For each schedule stands the least
-processor time of each in milliseconds, its page faults and its greatest memory, and the ratio of the times. With no
-schedules given it makes its own: chains of 1, 3 and 7 with 16,384 events, once with many pages that are sent again, once
+processor time of each in milliseconds and its page faults, and the ratio of the times. With no schedules given it makes its own: chains of 1, 3 and 7 with 16,384 events, once with many pages that are sent again, once
 with many clients and objects. The texts of both programs are compared first.
 """
 import os
@@ -67,14 +66,14 @@ def text(program, path):
 
 
 def used(program, path):
-    """Processor time, page faults and memory of one run."""
+    """Processor time and page faults of one run."""
     given, null = os.open(path, os.O_RDONLY), os.open(os.devnull, os.O_WRONLY)
     actions = [(os.POSIX_SPAWN_DUP2, given, 0), (os.POSIX_SPAWN_DUP2, null, 1)]
     process = os.posix_spawn(program, [program, "replay"], os.environ, file_actions=actions)
     _, _, usage = os.wait4(process, 0)
     os.close(given)
     os.close(null)
-    return usage.ru_utime + usage.ru_stime, usage.ru_minflt, usage.ru_maxrss
+    return usage.ru_utime + usage.ru_stime, usage.ru_minflt
 
 
 def main():
@@ -86,14 +85,14 @@ def main():
             if text(OWN, path) != text(other, path):
                 print(f"{os.path.basename(path)}: the texts differ")
                 continue
-            least = {OWN: (1e9, 0, 0), other: (1e9, 0, 0)}
+            least = {OWN: (1e9, 0), other: (1e9, 0)}
             for _ in range(runs):
                 for program in least:
                     least[program] = min(least[program], used(program, path))
-            (own, faults, memory), (base, base_faults, base_memory) = least[OWN], least[other]
+            (own, faults), (base, base_faults) = least[OWN], least[other]
             print(
-                f"{os.path.basename(path):10} {own * 1e3:8.2f} ms {faults:6} faults {memory:7} KB,"
-                f" other {base * 1e3:8.2f} ms {base_faults:6} faults {base_memory:7} KB, ratio {own / base:.2f}"
+                f"{os.path.basename(path):10} {own * 1e3:8.2f} ms {faults:6} faults,"
+                f" other {base * 1e3:8.2f} ms {base_faults:6} faults, ratio {own / base:.2f}"
             )
 
 
