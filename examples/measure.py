@@ -2,8 +2,9 @@
 """Measures the program against another one, given by its path: examples/measure.py OTHER [RUNS] [SCHEDULE..]
 
 Both replay the same schedules, in turn, so that a busy machine is unkind to both alike. For each schedule stands the least
-processor time of each in milliseconds and its page faults, and the ratio of the times. With no schedules given it makes its own: chains of 1, 3 and 7 with 16,384 events, once with many pages that are sent again, once
-with many clients and objects. The texts of both programs are compared first.
+processor time of each in milliseconds and its page faults, and the ratio of the times. With no schedules given it makes its
+own: chains of 1, 3 and 7 with 16,384 events, once with many pages that are sent again, once with many clients and objects.
+The texts of both programs are compared first. It wants the program as rt ci builds it.
 """
 import os
 import random
