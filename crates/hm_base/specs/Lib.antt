@@ -8,3 +8,4 @@ pub mod Spellings
 pub mod Slots
 pub mod Taking
 pub mod StepCounts
+pub mod Written

@@ -2,16 +2,16 @@ ghost use Rattle.hm_base.specs.Logs.{max_page_len};
 ghost use Rattle.arrayvec.specs.ArrayVec.{array_vec_len};
 ghost use Rattle.std.specs.Prelude.{◌≡◌, ◌<◌, ◌≤◌, ◌↔◌, [], ◌∷◌, ◌++◌, length, slice_get, ◌+◌, IsOk, OnOk, OnErr};
 
-use crate::entry::{Act, Entry};
+use crate::entry::Entry;
 use arrayvec::ArrayVec;
 use std::marker::Model;
 
 /// How many entries a page has at most.
 pub const MAX_PAGE_LEN: usize = 16;
 
-/// The entries of a page, at most [`MAX_PAGE_LEN`] of them. Contracts see a list.
+/// Room for the entries of a page that is read off bytes, at most [`MAX_PAGE_LEN`] of them. Contracts see a list.
 #[derive(Drop)]
-pub struct Entries {
+pub struct PageRoom {
     list: ArrayVec<Entry, MAX_PAGE_LEN>,
 }
 
@@ -19,7 +19,7 @@ pub struct Entries {
 #[derive(Clone, Copy, Debug, PartialEq, Eq)]
 pub struct PageFull;
 
-impl Model for Entries {
+impl Model for PageRoom {
     ghost use Rattle.std.specs.Prelude.{List};
     ghost use Rattle.hm_base.specs.declared.entry.Entry.{Entry};
 
@@ -28,12 +28,12 @@ impl Model for Entries {
     ghost view = { λ a. a.list.items };
 }
 
-impl Entries {
+impl PageRoom {
     /// The empty list.
-    pub fn new() -> Entries
+    pub fn new() -> PageRoom
         ensures { result ≡ [] }
     {
-        Entries {
+        PageRoom {
             list: ArrayVec::new(),
         }
     }
@@ -52,6 +52,50 @@ impl Entries {
         Ok(())
     }
 
+    /// Takes all entries out.
+    pub fn clear(&mut self)
+        ensures { self.new ≡ [] }
+    {
+        self.list.clear();
+    }
+
+    /// The page of these entries.
+    pub fn entries(&self) -> Entries<'_>
+        ensures { result ≡ self.now }
+    {
+        Entries {
+            list: self.list.as_slice(),
+        }
+    }
+}
+
+/// The entries of a page, at most [`MAX_PAGE_LEN`] of them, where they lie: in a log or in a [`PageRoom`]. Contracts see a list.
+#[derive(Drop)]
+pub struct Entries<'a> {
+    list: &'a [Entry],
+}
+
+impl<'a> Model for Entries<'a> {
+    ghost use Rattle.std.specs.Prelude.{List, ◌≤◌, length};
+    ghost use Rattle.hm_base.specs.declared.entry.Entry.{Entry};
+    ghost use Rattle.hm_base.specs.Logs.{max_page_len};
+
+    ghost Value = { List Entry };
+
+    ghost view = { λ a. a.list.now };
+
+    ghost invariant = { λ a. length a.list.now ≤ max_page_len };
+}
+
+impl<'a> Entries<'a> {
+    /// The page of these entries.
+    pub fn of(list: &'a [Entry]) -> Entries<'a>
+        requires { length list.now ≤ max_page_len }
+        ensures { result ≡ list.now }
+    {
+        Entries { list }
+    }
+
     /// How many entries there are.
     pub fn len(&self) -> u32
         ensures { result ≡ length self.now }
@@ -63,24 +107,21 @@ impl Entries {
     pub fn get(&self, i: u32) -> Option<Entry>
         ensures { result ≡ slice_get self.now i }
     {
-        self.list.as_slice().get(i as usize).copied()
+        self.list.get(i as usize).copied()
     }
 
     /// The entries.
-    pub fn as_slice(&self) -> &[Entry]
+    pub fn as_slice(&self) -> &'a [Entry]
         ensures same { result.now ≡ self.now }
         ensures fits { length result.now ≤ max_page_len }
     {
-        self.list.as_slice()
+        self.list
     }
 
     /// An equal page.
-    pub fn copy(&self) -> Entries
+    pub fn copy(&self) -> Entries<'a>
         ensures { result ≡ self.now }
     {
-        let _act = Act::Look;
-        let mut list = ArrayVec::new();
-        let _ = list.try_extend_from_slice(self.list.as_slice());
-        Entries { list }
+        Entries { list: self.list }
     }
 }

@@ -1,6 +1,7 @@
 //! Stamps, values, log entries, nodes and short lists: what every part of the store speaks of.
 #![tactic(auto)]
 
+pub mod buffer;
 pub mod entries;
 pub mod entry;
 pub mod members;

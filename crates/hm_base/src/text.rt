@@ -3,6 +3,7 @@ ghost use Rattle.hm_base.specs.Lists.{IsPrefix};
 ghost use Rattle.hm_base.specs.Padded.{max_value_len};
 ghost use Rattle.hm_base.specs.Spellings.{dotted, value_text, act_text, answer_text, stamp_text, op_text, node_text};
 
+use crate::buffer::Text;
 use crate::entry::Act;
 use crate::memory::NoMemory;
 use crate::node::Node;
@@ -12,17 +13,16 @@ use crate::value::{MAX_VALUE_LEN, Value};
 use itoa::Buffer;
 
 /// Appends the bytes. After want of memory `out` is as before, here and in the other calls of this module.
-pub fn write_bytes(bytes: &[u8], out: &mut Vec<u8>) -> Result<(), NoMemory>
+pub fn write_bytes(bytes: &[u8], out: &mut Text) -> Result<(), NoMemory>
     ensures ok { OnOk result (out.new.items ≡ out.old.items ++ bytes.now) }
     ensures err { OnErr result (out.new.items ≡ out.old.items) }
 {
-    out.extend_from_slice(bytes)?;
-    Ok(())
+    out.put(bytes)
 }
 
 /// Appends a number in decimal.
 #[tactic(auto, using(std::proofs::lemmas::Fmt::decimal_digit))]
-pub fn write_number(number: u64, out: &mut Vec<u8>) -> Result<(), NoMemory>
+pub fn write_number(number: u64, out: &mut Text) -> Result<(), NoMemory>
     ensures ok { OnOk result (out.new.items ≡ out.old.items ++ decimal number) }
     ensures err { OnErr result (out.new.items ≡ out.old.items) }
 {
@@ -35,7 +35,7 @@ pub fn write_number(number: u64, out: &mut Vec<u8>) -> Result<(), NoMemory>
 }
 
 /// Appends two numbers with a dot between them. After want of memory `out` may have the first ones of these bytes.
-fn push_dotted(first: u64, second: u64, out: &mut Vec<u8>) -> Result<(), NoMemory>
+fn push_dotted(first: u64, second: u64, out: &mut Text) -> Result<(), NoMemory>
     ensures ok { OnOk result (out.new.items ≡ out.old.items ++ dotted first second) }
     ensures err { OnErr result (IsPrefix out.old.items out.new.items) }
 {
@@ -45,7 +45,7 @@ fn push_dotted(first: u64, second: u64, out: &mut Vec<u8>) -> Result<(), NoMemor
 }
 
 /// Appends two numbers with a dot between them.
-fn write_dotted(first: u64, second: u64, out: &mut Vec<u8>) -> Result<(), NoMemory>
+fn write_dotted(first: u64, second: u64, out: &mut Text) -> Result<(), NoMemory>
     ensures ok { OnOk result (out.new.items ≡ out.old.items ++ dotted first second) }
     ensures err { OnErr result (out.new.items ≡ out.old.items) }
 {
@@ -58,7 +58,7 @@ fn write_dotted(first: u64, second: u64, out: &mut Vec<u8>) -> Result<(), NoMemo
 }
 
 /// Appends a stamp, as `1.9`.
-pub fn write_stamp(stamp: Stamp, out: &mut Vec<u8>) -> Result<(), NoMemory>
+pub fn write_stamp(stamp: Stamp, out: &mut Text) -> Result<(), NoMemory>
     ensures ok { OnOk result (out.new.items ≡ out.old.items ++ stamp_text stamp) }
     ensures err { OnErr result (out.new.items ≡ out.old.items) }
 {
@@ -66,7 +66,7 @@ pub fn write_stamp(stamp: Stamp, out: &mut Vec<u8>) -> Result<(), NoMemory>
 }
 
 /// Appends an operation, as `7.1`.
-pub fn write_op(op: OpId, out: &mut Vec<u8>) -> Result<(), NoMemory>
+pub fn write_op(op: OpId, out: &mut Text) -> Result<(), NoMemory>
     ensures ok { OnOk result (out.new.items ≡ out.old.items ++ op_text op) }
     ensures err { OnErr result (out.new.items ≡ out.old.items) }
 {
@@ -74,7 +74,7 @@ pub fn write_op(op: OpId, out: &mut Vec<u8>) -> Result<(), NoMemory>
 }
 
 /// Appends a value in lower-case hexadecimal, or `empty`.
-pub fn write_value(value: &Value, out: &mut Vec<u8>) -> Result<(), NoMemory>
+pub fn write_value(value: &Value, out: &mut Text) -> Result<(), NoMemory>
     ensures ok { OnOk result (out.new.items ≡ out.old.items ++ value_text value.now) }
     ensures err { OnErr result (out.new.items ≡ out.old.items) }
 {
@@ -82,7 +82,7 @@ pub fn write_value(value: &Value, out: &mut Vec<u8>) -> Result<(), NoMemory>
 }
 
 /// Appends the text of a value of these bytes.
-pub fn write_value_bytes(bytes: &[u8], out: &mut Vec<u8>) -> Result<(), NoMemory>
+pub fn write_value_bytes(bytes: &[u8], out: &mut Text) -> Result<(), NoMemory>
     requires { length bytes.now ≤ max_value_len }
     ensures ok { OnOk result (out.new.items ≡ out.old.items ++ value_text bytes.now) }
     ensures err { OnErr result (out.new.items ≡ out.old.items) }
@@ -97,7 +97,7 @@ pub fn write_value_bytes(bytes: &[u8], out: &mut Vec<u8>) -> Result<(), NoMemory
 }
 
 /// Appends what an entry does: its value, or `look`.
-pub fn write_act(act: &Act, out: &mut Vec<u8>) -> Result<(), NoMemory>
+pub fn write_act(act: &Act, out: &mut Text) -> Result<(), NoMemory>
     ensures ok { OnOk result (out.new.items ≡ out.old.items ++ act_text act.now) }
     ensures err { OnErr result (out.new.items ≡ out.old.items) }
 {
@@ -108,7 +108,7 @@ pub fn write_act(act: &Act, out: &mut Vec<u8>) -> Result<(), NoMemory>
 }
 
 /// Appends an answer: `wrote`, `none` or a value.
-pub fn write_answer(answer: &Answer, out: &mut Vec<u8>) -> Result<(), NoMemory>
+pub fn write_answer(answer: &Answer, out: &mut Text) -> Result<(), NoMemory>
     ensures ok { OnOk result (out.new.items ≡ out.old.items ++ answer_text answer.now) }
     ensures err { OnErr result (out.new.items ≡ out.old.items) }
 {
@@ -120,20 +120,21 @@ pub fn write_answer(answer: &Answer, out: &mut Vec<u8>) -> Result<(), NoMemory>
 }
 
 /// Appends a letter and a number.
-fn write_lettered(letter: u8, number: u64, out: &mut Vec<u8>) -> Result<(), NoMemory>
+fn write_lettered(letter: u8, number: u64, out: &mut Text) -> Result<(), NoMemory>
     ensures ok { OnOk result (out.new.items ≡ out.old.items ++ letter ∷ decimal number) }
     ensures err { OnErr result (out.new.items ≡ out.old.items) }
 {
+    let before = out.len();
     out.push(letter)?;
     let written = write_number(number, out);
     if written.is_err() {
-        out.pop();
+        out.truncate(before);
     }
     written
 }
 
 /// Appends a node: `c7`, `s1`, `r0` or `cfg`.
-pub fn write_node(node: Node, out: &mut Vec<u8>) -> Result<(), NoMemory>
+pub fn write_node(node: Node, out: &mut Text) -> Result<(), NoMemory>
     ensures ok { OnOk result (out.new.items ≡ out.old.items ++ node_text node) }
     ensures err { OnErr result (out.new.items ≡ out.old.items) }
 {
