@@ -1,5 +1,7 @@
-use crate::outs::Outs;
 use hm_base::why::Why;
+
+/// How many packets one step sends at most.
+pub const MAX_OUTS: usize = 24;
 
 /// A range of a log that a step declares committed, empty where its ends are equal.
 #[derive(Clone, Copy, Debug, PartialEq, Eq)]
@@ -14,12 +16,4 @@ pub enum Did {
     Done,
     Ignored(Why),
     LogFull,
-}
-
-/// What a replica's step gave: the packets to send in order, the range that it declared, and how it ended.
-#[derive(Drop)]
-pub struct Acted {
-    pub outs: Outs,
-    pub declared: Declared,
-    pub did: Did,
 }

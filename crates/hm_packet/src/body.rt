@@ -65,12 +65,12 @@ pub struct Reply {
 
 /// A page of a log, from a replica to those that follow it.
 #[derive(Drop)]
-pub struct Feed {
+pub struct Feed<'a> {
     pub view: u32,
     pub start: u32,
     pub first: u32,
     pub commit: u32,
-    pub entries: Entries,
+    pub entries: Entries<'a>,
 }
 
 /// How long a list its sender holds.
@@ -119,10 +119,10 @@ pub struct Pull {
 
 /// A page of the chosen log.
 #[derive(Drop)]
-pub struct Page {
+pub struct Page<'a> {
     pub view: u32,
     pub first: u32,
-    pub entries: Entries,
+    pub entries: Entries<'a>,
 }
 
 /// The members of an epoch.
@@ -146,7 +146,7 @@ pub struct Refused {
 
 /// What a packet says.
 #[derive(Drop)]
-pub enum Body {
+pub enum Body<'a> {
     Read(Read),
     Write(Write),
     Put(Put),
@@ -154,25 +154,25 @@ pub enum Body {
     NormalRead(NormalRead),
     Done(Done),
     Reply(Reply),
-    Feed(Feed),
+    Feed(Feed<'a>),
     FeedAck(FeedAck),
     Ask(Ask),
     Known(Known),
     StartViewChange(StartViewChange),
     Vote(Vote),
     Pull(Pull),
-    Page(Page),
+    Page(Page<'a>),
     Config(Config),
     Route(Route),
     Refuse(Refuse),
     Refused(Refused),
 }
 
-impl Body {
+impl<'a> Body<'a> {
     ghost use Rattle.std.specs.Prelude.{◌≡◌};
 
     /// An equal body.
-    pub fn copy(&self) -> Body
+    pub fn copy(&self) -> Body<'a>
         ensures { result ≡ self.now }
     {
         match self {

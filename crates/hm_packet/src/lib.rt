@@ -5,7 +5,6 @@ pub mod acted;
 pub mod body;
 pub mod field;
 pub mod outcome;
-pub mod outs;
 pub mod packet;
 pub mod parts;
 pub mod route;

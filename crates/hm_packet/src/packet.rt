@@ -6,13 +6,13 @@ use std::marker::Model;
 
 /// A packet. Each replica number in it is at most 6. Contracts see a [`Message`] of its parts.
 #[derive(Drop)]
-pub struct Packet {
+pub struct Packet<'a> {
     pub src: Node,
     pub dst: Node,
-    pub body: Body,
+    pub body: Body<'a>,
 }
 
-impl Model for Packet {
+impl<'a> Model for Packet<'a> {
     ghost use Rattle.hm_packet.specs.Messages.{Message, IsLawful};
 
     ghost Value = { Message };
@@ -22,9 +22,9 @@ impl Model for Packet {
     ghost invariant = { λ p. IsLawful (record { src = p.src; dst = p.dst; body = p.body }) };
 }
 
-impl Packet {
+impl<'a> Packet<'a> {
     /// An equal packet. It takes no memory.
-    pub fn copy(&self) -> Packet
+    pub fn copy(&self) -> Packet<'a>
         ensures { result ≡ self.now }
     {
         Packet {
@@ -33,14 +33,12 @@ impl Packet {
             body: self.body.copy(),
         }
     }
-}
 
-/// The blank that short lists of packets are made of.
-impl Default for Packet {
-    fn default() -> Packet {
+    /// A packet that says nothing of use, as the place that a packet is read into.
+    pub fn blank() -> Packet<'a> {
         Packet {
-            src: Node::Client(0),
-            dst: Node::Client(0),
+            src: Node::Config,
+            dst: Node::Config,
             body: Body::Read(Read {
                 request: 0,
                 object: 0,

@@ -5,12 +5,13 @@ ghost use Rattle.hm_packet.specs.Texts.{packet_text};
 
 use crate::packet::Packet;
 use crate::words::write_body;
+use hm_base::buffer::Text;
 use hm_base::memory::NoMemory;
 use hm_base::node::Node;
 use hm_base::text::write_node;
 
 /// Appends a packet's source and destination. After want of memory `out` begins with what it held.
-pub fn write_ends(src: Node, dst: Node, out: &mut Vec<u8>) -> Result<(), NoMemory>
+pub fn write_ends(src: Node, dst: Node, out: &mut Text) -> Result<(), NoMemory>
     ensures ok { OnOk result (out.new.items ≡ out.old.items ++ joined (node_text src ∷ node_text dst ∷ [])) }
     ensures err { OnErr result (IsPrefix out.old.items out.new.items) }
 {
@@ -20,7 +21,7 @@ pub fn write_ends(src: Node, dst: Node, out: &mut Vec<u8>) -> Result<(), NoMemor
 }
 
 /// Appends a packet's text, or some of it.
-fn push_packet(packet: &Packet, out: &mut Vec<u8>) -> Result<(), NoMemory>
+fn push_packet(packet: &Packet, out: &mut Text) -> Result<(), NoMemory>
     ensures ok { OnOk result (out.new.items ≡ out.old.items ++ packet_text packet.now) }
     ensures err { OnErr result (IsPrefix out.old.items out.new.items) }
 {
@@ -29,7 +30,7 @@ fn push_packet(packet: &Packet, out: &mut Vec<u8>) -> Result<(), NoMemory>
 }
 
 /// Appends a packet's text. After want of memory `out` is as before.
-pub fn write_packet(packet: &Packet, out: &mut Vec<u8>) -> Result<(), NoMemory>
+pub fn write_packet(packet: &Packet, out: &mut Text) -> Result<(), NoMemory>
     ensures ok { OnOk result (out.new.items ≡ out.old.items ++ packet_text packet.now) }
     ensures err { OnErr result (out.new.items ≡ out.old.items) }
 {

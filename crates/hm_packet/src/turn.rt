@@ -5,7 +5,7 @@ use hm_base::why::Why;
 /// of a free slot; or it has handled as many packets as its life allows, and nothing changes.
 #[derive(Drop)]
 pub enum Turn {
-    Sent(Packet),
+    Sent(Packet<'static>),
     Noted,
     Ignored(Why),
     Full,

@@ -13,11 +13,12 @@ use crate::parts::{
     push_value, push_word,
 };
 use crate::route::Route;
+use hm_base::buffer::Text;
 use hm_base::memory::NoMemory;
 
 /// Appends a body's words: its kind's name and its fields, each with a space before it. After want of memory `out` begins with
 /// what it held, here and in the other calls of this module.
-pub fn write_body(body: &Body, out: &mut Vec<u8>) -> Result<(), NoMemory>
+pub fn write_body(body: &Body, out: &mut Text) -> Result<(), NoMemory>
     ensures ok { OnOk result (out.new.items ≡ out.old.items ++ spaced (body_words body.now)) }
     ensures err { OnErr result (IsPrefix out.old.items out.new.items) }
 {
@@ -45,7 +46,7 @@ pub fn write_body(body: &Body, out: &mut Vec<u8>) -> Result<(), NoMemory>
 }
 
 /// Appends the words of a read.
-pub fn write_read(fields: &Read, out: &mut Vec<u8>) -> Result<(), NoMemory>
+pub fn write_read(fields: &Read, out: &mut Text) -> Result<(), NoMemory>
     ensures ok { OnOk result (out.new.items ≡ out.old.items ++ spaced (body_words (body.Read fields.now))) }
     ensures err { OnErr result (IsPrefix out.old.items out.new.items) }
 {
@@ -54,7 +55,7 @@ pub fn write_read(fields: &Read, out: &mut Vec<u8>) -> Result<(), NoMemory>
 }
 
 /// Appends the words of a write.
-pub fn write_write(fields: &Write, out: &mut Vec<u8>) -> Result<(), NoMemory>
+pub fn write_write(fields: &Write, out: &mut Text) -> Result<(), NoMemory>
     ensures ok { OnOk result (out.new.items ≡ out.old.items ++ spaced (body_words (body.Write fields.now))) }
     ensures err { OnErr result (IsPrefix out.old.items out.new.items) }
 {
@@ -64,39 +65,37 @@ pub fn write_write(fields: &Write, out: &mut Vec<u8>) -> Result<(), NoMemory>
 }
 
 /// Appends the words of a numbered write.
-pub fn write_put(fields: &Put, out: &mut Vec<u8>) -> Result<(), NoMemory>
+pub fn write_put(fields: &Put, out: &mut Text) -> Result<(), NoMemory>
     ensures ok { OnOk result (out.new.items ≡ out.old.items ++ spaced (body_words (body.Put fields.now))) }
     ensures err { OnErr result (IsPrefix out.old.items out.new.items) }
 {
     push_word(b"put", out)?;
     push_stamp(fields.stamp, out)?;
-    push_number(u64::from(fields.client), out)?;
-    push_request(fields.request, fields.object, out)?;
+    push_request(fields.client, fields.request, fields.object, out)?;
     push_value(&fields.value, out)
 }
 
 /// Appends the words of a stamped read.
-pub fn write_fast_read(fields: &FastRead, out: &mut Vec<u8>) -> Result<(), NoMemory>
+pub fn write_fast_read(fields: &FastRead, out: &mut Text) -> Result<(), NoMemory>
     ensures ok { OnOk result (out.new.items ≡ out.old.items ++ spaced (body_words (body.FastRead fields.now))) }
     ensures err { OnErr result (IsPrefix out.old.items out.new.items) }
 {
     push_word(b"fastread", out)?;
     push_stamp(fields.stamp, out)?;
-    push_number(u64::from(fields.client), out)?;
-    push_request(fields.request, fields.object, out)
+    push_request(fields.client, fields.request, fields.object, out)
 }
 
 /// Appends the words of a read that goes the normal way.
-pub fn write_normal_read(fields: &NormalRead, out: &mut Vec<u8>) -> Result<(), NoMemory>
+pub fn write_normal_read(fields: &NormalRead, out: &mut Text) -> Result<(), NoMemory>
     ensures ok { OnOk result (out.new.items ≡ out.old.items ++ spaced (body_words (body.NormalRead fields.now))) }
     ensures err { OnErr result (IsPrefix out.old.items out.new.items) }
 {
-    push_kind(b"normalread", u64::from(fields.client), out)?;
-    push_request(fields.request, fields.object, out)
+    push_word(b"normalread", out)?;
+    push_request(fields.client, fields.request, fields.object, out)
 }
 
 /// Appends the words of a completion.
-pub fn write_done(fields: &Done, out: &mut Vec<u8>) -> Result<(), NoMemory>
+pub fn write_done(fields: &Done, out: &mut Text) -> Result<(), NoMemory>
     ensures ok { OnOk result (out.new.items ≡ out.old.items ++ spaced (body_words (body.Done fields.now))) }
     ensures err { OnErr result (IsPrefix out.old.items out.new.items) }
 {
@@ -107,7 +106,7 @@ pub fn write_done(fields: &Done, out: &mut Vec<u8>) -> Result<(), NoMemory>
 }
 
 /// Appends the words of an answer.
-pub fn write_reply(fields: &Reply, out: &mut Vec<u8>) -> Result<(), NoMemory>
+pub fn write_reply(fields: &Reply, out: &mut Text) -> Result<(), NoMemory>
     ensures ok { OnOk result (out.new.items ≡ out.old.items ++ spaced (body_words (body.Reply fields.now))) }
     ensures err { OnErr result (IsPrefix out.old.items out.new.items) }
 {
@@ -117,7 +116,7 @@ pub fn write_reply(fields: &Reply, out: &mut Vec<u8>) -> Result<(), NoMemory>
 }
 
 /// Appends the words of how long a list is held.
-pub fn write_feed_ack(fields: &FeedAck, out: &mut Vec<u8>) -> Result<(), NoMemory>
+pub fn write_feed_ack(fields: &FeedAck, out: &mut Text) -> Result<(), NoMemory>
     ensures ok { OnOk result (out.new.items ≡ out.old.items ++ spaced (body_words (body.FeedAck fields.now))) }
     ensures err { OnErr result (IsPrefix out.old.items out.new.items) }
 {
@@ -126,7 +125,7 @@ pub fn write_feed_ack(fields: &FeedAck, out: &mut Vec<u8>) -> Result<(), NoMemor
 }
 
 /// Appends the words of a call for a completion.
-pub fn write_ask(fields: &Ask, out: &mut Vec<u8>) -> Result<(), NoMemory>
+pub fn write_ask(fields: &Ask, out: &mut Text) -> Result<(), NoMemory>
     ensures ok { OnOk result (out.new.items ≡ out.old.items ++ spaced (body_words (body.Ask fields.now))) }
     ensures err { OnErr result (IsPrefix out.old.items out.new.items) }
 {
@@ -136,7 +135,7 @@ pub fn write_ask(fields: &Ask, out: &mut Vec<u8>) -> Result<(), NoMemory>
 }
 
 /// Appends the words of how much is committed.
-pub fn write_known(fields: &Known, out: &mut Vec<u8>) -> Result<(), NoMemory>
+pub fn write_known(fields: &Known, out: &mut Text) -> Result<(), NoMemory>
     ensures ok { OnOk result (out.new.items ≡ out.old.items ++ spaced (body_words (body.Known fields.now))) }
     ensures err { OnErr result (IsPrefix out.old.items out.new.items) }
 {
@@ -145,7 +144,7 @@ pub fn write_known(fields: &Known, out: &mut Vec<u8>) -> Result<(), NoMemory>
 }
 
 /// Appends the words of a view that is entered.
-pub fn write_start_view_change(fields: &StartViewChange, out: &mut Vec<u8>) -> Result<(), NoMemory>
+pub fn write_start_view_change(fields: &StartViewChange, out: &mut Text) -> Result<(), NoMemory>
     ensures ok { OnOk result (out.new.items ≡ out.old.items ++ spaced (body_words (body.StartViewChange fields.now))) }
     ensures err { OnErr result (IsPrefix out.old.items out.new.items) }
 {
@@ -153,7 +152,7 @@ pub fn write_start_view_change(fields: &StartViewChange, out: &mut Vec<u8>) -> R
 }
 
 /// Appends the words of a vote.
-pub fn write_vote(fields: &Vote, out: &mut Vec<u8>) -> Result<(), NoMemory>
+pub fn write_vote(fields: &Vote, out: &mut Text) -> Result<(), NoMemory>
     ensures ok { OnOk result (out.new.items ≡ out.old.items ++ spaced (body_words (body.Vote fields.now))) }
     ensures err { OnErr result (IsPrefix out.old.items out.new.items) }
 {
@@ -164,7 +163,7 @@ pub fn write_vote(fields: &Vote, out: &mut Vec<u8>) -> Result<(), NoMemory>
 }
 
 /// Appends the words of a call for a log.
-pub fn write_pull(fields: &Pull, out: &mut Vec<u8>) -> Result<(), NoMemory>
+pub fn write_pull(fields: &Pull, out: &mut Text) -> Result<(), NoMemory>
     ensures ok { OnOk result (out.new.items ≡ out.old.items ++ spaced (body_words (body.Pull fields.now))) }
     ensures err { OnErr result (IsPrefix out.old.items out.new.items) }
 {
@@ -173,7 +172,7 @@ pub fn write_pull(fields: &Pull, out: &mut Vec<u8>) -> Result<(), NoMemory>
 }
 
 /// Appends the words of the members of an epoch.
-pub fn write_config(fields: &Config, out: &mut Vec<u8>) -> Result<(), NoMemory>
+pub fn write_config(fields: &Config, out: &mut Text) -> Result<(), NoMemory>
     ensures ok { OnOk result (out.new.items ≡ out.old.items ++ spaced (body_words (body.Config fields.now))) }
     ensures err { OnErr result (IsPrefix out.old.items out.new.items) }
 {
@@ -182,7 +181,7 @@ pub fn write_config(fields: &Config, out: &mut Vec<u8>) -> Result<(), NoMemory>
 }
 
 /// Appends the words of a route.
-pub fn write_route(fields: &Route, out: &mut Vec<u8>) -> Result<(), NoMemory>
+pub fn write_route(fields: &Route, out: &mut Text) -> Result<(), NoMemory>
     ensures ok { OnOk result (out.new.items ≡ out.old.items ++ spaced (body_words (body.Route fields.now))) }
     ensures err { OnErr result (IsPrefix out.old.items out.new.items) }
 {
@@ -193,7 +192,7 @@ pub fn write_route(fields: &Route, out: &mut Vec<u8>) -> Result<(), NoMemory>
 }
 
 /// Appends the words of a switch to be refused.
-pub fn write_refuse(fields: &Refuse, out: &mut Vec<u8>) -> Result<(), NoMemory>
+pub fn write_refuse(fields: &Refuse, out: &mut Text) -> Result<(), NoMemory>
     ensures ok { OnOk result (out.new.items ≡ out.old.items ++ spaced (body_words (body.Refuse fields.now))) }
     ensures err { OnErr result (IsPrefix out.old.items out.new.items) }
 {
@@ -201,7 +200,7 @@ pub fn write_refuse(fields: &Refuse, out: &mut Vec<u8>) -> Result<(), NoMemory>
 }
 
 /// Appends the words of a refused switch.
-pub fn write_refused(fields: &Refused, out: &mut Vec<u8>) -> Result<(), NoMemory>
+pub fn write_refused(fields: &Refused, out: &mut Text) -> Result<(), NoMemory>
     ensures ok { OnOk result (out.new.items ≡ out.old.items ++ spaced (body_words (body.Refused fields.now))) }
     ensures err { OnErr result (IsPrefix out.old.items out.new.items) }
 {
@@ -209,7 +208,7 @@ pub fn write_refused(fields: &Refused, out: &mut Vec<u8>) -> Result<(), NoMemory
 }
 
 /// Appends the words of a page from a log.
-pub fn write_feed(fields: &Feed, out: &mut Vec<u8>) -> Result<(), NoMemory>
+pub fn write_feed(fields: &Feed, out: &mut Text) -> Result<(), NoMemory>
     ensures ok { OnOk result (out.new.items ≡ out.old.items ++ spaced (body_words (body.Feed fields.now))) }
     ensures err { OnErr result (IsPrefix out.old.items out.new.items) }
 {
@@ -221,7 +220,7 @@ pub fn write_feed(fields: &Feed, out: &mut Vec<u8>) -> Result<(), NoMemory>
 }
 
 /// Appends the words of a page of the chosen log.
-pub fn write_page(fields: &Page, out: &mut Vec<u8>) -> Result<(), NoMemory>
+pub fn write_page(fields: &Page, out: &mut Text) -> Result<(), NoMemory>
     ensures ok { OnOk result (out.new.items ≡ out.old.items ++ spaced (body_words (body.Page fields.now))) }
     ensures err { OnErr result (IsPrefix out.old.items out.new.items) }
 {
