@@ -7,7 +7,7 @@ use crate::fields::{u8_within, u32_at, u64_at};
 use crate::lists::{entries_at, members_at};
 use crate::malformed::Reason;
 use crate::parts::{answer_at, stamp_at, value_at};
-use hm_base::entries::Entries;
+use hm_base::entries::PageRoom;
 use hm_packet::body::{
     Ask, Config, Done, FastRead, FeedAck, Known, NormalRead, Pull, Put, Read, Refuse, Refused,
     Reply, StartViewChange, Vote, Write,
@@ -33,7 +33,7 @@ pub struct PageFields {
 
 /// Reads the fields of a read. Here and below, the bytes after the fields stand beside them.
 #[tactic(auto, unfolding(crate::specs::Reading::read_at))]
-#[inline]
+#[inline(always)]
 pub fn read_at(bytes: &[u8]) -> Result<(Read, &[u8]), Fault>
     ensures { Gives (λ x. (x.0, x.1.now)) result (reading.read_at bytes.now) }
 {
@@ -43,7 +43,7 @@ pub fn read_at(bytes: &[u8]) -> Result<(Read, &[u8]), Fault>
 }
 
 #[tactic(auto, unfolding(crate::specs::Reading::write_at))]
-#[inline]
+#[inline(always)]
 pub fn write_at(bytes: &[u8]) -> Result<(Write, &[u8]), Fault>
     ensures { Gives (λ x. (x.0, x.1.now)) result (reading.write_at bytes.now) }
 {
@@ -63,7 +63,7 @@ pub fn write_at(bytes: &[u8]) -> Result<(Write, &[u8]), Fault>
 }
 
 #[tactic(auto, unfolding(crate::specs::Reading::put_at))]
-#[inline]
+#[inline(always)]
 pub fn put_at(bytes: &[u8]) -> Result<(Put, &[u8]), Fault>
     ensures { Gives (λ x. (x.0, x.1.now)) result (reading.put_at bytes.now) }
 {
@@ -87,7 +87,7 @@ pub fn put_at(bytes: &[u8]) -> Result<(Put, &[u8]), Fault>
 }
 
 #[tactic(auto, unfolding(crate::specs::Reading::fast_read_at))]
-#[inline]
+#[inline(always)]
 pub fn fast_read_at(bytes: &[u8]) -> Result<(FastRead, &[u8]), Fault>
     ensures { Gives (λ x. (x.0, x.1.now)) result (reading.fast_read_at bytes.now) }
 {
@@ -105,7 +105,7 @@ pub fn fast_read_at(bytes: &[u8]) -> Result<(FastRead, &[u8]), Fault>
 }
 
 #[tactic(auto, unfolding(crate::specs::Reading::normal_read_at))]
-#[inline]
+#[inline(always)]
 pub fn normal_read_at(bytes: &[u8]) -> Result<(NormalRead, &[u8]), Fault>
     ensures { Gives (λ x. (x.0, x.1.now)) result (reading.normal_read_at bytes.now) }
 {
@@ -121,7 +121,7 @@ pub fn normal_read_at(bytes: &[u8]) -> Result<(NormalRead, &[u8]), Fault>
 }
 
 #[tactic(auto, unfolding(crate::specs::Reading::done_at))]
-#[inline]
+#[inline(always)]
 pub fn done_at(bytes: &[u8]) -> Result<(Done, &[u8]), Fault>
     ensures { Gives (λ x. (x.0, x.1.now)) result (reading.done_at bytes.now) }
 {
@@ -137,7 +137,7 @@ pub fn done_at(bytes: &[u8]) -> Result<(Done, &[u8]), Fault>
 }
 
 #[tactic(auto, unfolding(crate::specs::Reading::reply_at))]
-#[inline]
+#[inline(always)]
 pub fn reply_at(bytes: &[u8]) -> Result<(Reply, &[u8]), Fault>
     ensures { Gives (λ x. (x.0, x.1.now)) result (reading.reply_at bytes.now) }
 {
@@ -158,7 +158,7 @@ pub fn reply_at(bytes: &[u8]) -> Result<(Reply, &[u8]), Fault>
 
 /// Reads the fields of a feed, its entries into the empty page.
 #[tactic(auto, unfolding(crate::specs::Reading::feed_at))]
-pub fn feed_at<'a>(bytes: &'a [u8], entries: &mut Entries) -> Result<(FeedFields, &'a [u8]), Fault>
+pub fn feed_at<'a>(bytes: &'a [u8], entries: &mut PageRoom) -> Result<(FeedFields, &'a [u8]), Fault>
     requires { entries.old ≡ [] }
     ensures { Gives (λ x. (record { view = x.0.view; start = x.0.start; first = x.0.first; commit = x.0.commit; entries = entries.new }, x.1.now)) result (reading.feed_at bytes.now) }
 {
@@ -177,7 +177,7 @@ pub fn feed_at<'a>(bytes: &'a [u8], entries: &mut Entries) -> Result<(FeedFields
 }
 
 #[tactic(auto, unfolding(crate::specs::Reading::feed_ack_at))]
-#[inline]
+#[inline(always)]
 pub fn feed_ack_at(bytes: &[u8]) -> Result<(FeedAck, &[u8]), Fault>
     ensures { Gives (λ x. (x.0, x.1.now)) result (reading.feed_ack_at bytes.now) }
 {
@@ -187,7 +187,7 @@ pub fn feed_ack_at(bytes: &[u8]) -> Result<(FeedAck, &[u8]), Fault>
 }
 
 #[tactic(auto, unfolding(crate::specs::Reading::ask_at))]
-#[inline]
+#[inline(always)]
 pub fn ask_at(bytes: &[u8]) -> Result<(Ask, &[u8]), Fault>
     ensures { Gives (λ x. (x.0, x.1.now)) result (reading.ask_at bytes.now) }
 {
@@ -203,7 +203,7 @@ pub fn ask_at(bytes: &[u8]) -> Result<(Ask, &[u8]), Fault>
 }
 
 #[tactic(auto, unfolding(crate::specs::Reading::known_at))]
-#[inline]
+#[inline(always)]
 pub fn known_at(bytes: &[u8]) -> Result<(Known, &[u8]), Fault>
     ensures { Gives (λ x. (x.0, x.1.now)) result (reading.known_at bytes.now) }
 {
@@ -213,7 +213,7 @@ pub fn known_at(bytes: &[u8]) -> Result<(Known, &[u8]), Fault>
 }
 
 #[tactic(auto, unfolding(crate::specs::Reading::start_view_change_at))]
-#[inline]
+#[inline(always)]
 pub fn start_view_change_at(bytes: &[u8]) -> Result<(StartViewChange, &[u8]), Fault>
     ensures { Gives (λ x. (x.0, x.1.now)) result (reading.start_view_change_at bytes.now) }
 {
@@ -222,7 +222,7 @@ pub fn start_view_change_at(bytes: &[u8]) -> Result<(StartViewChange, &[u8]), Fa
 }
 
 #[tactic(auto, unfolding(crate::specs::Reading::vote_at))]
-#[inline]
+#[inline(always)]
 pub fn vote_at(bytes: &[u8]) -> Result<(Vote, &[u8]), Fault>
     ensures { Gives (λ x. (x.0, x.1.now)) result (reading.vote_at bytes.now) }
 {
@@ -240,7 +240,7 @@ pub fn vote_at(bytes: &[u8]) -> Result<(Vote, &[u8]), Fault>
 }
 
 #[tactic(auto, unfolding(crate::specs::Reading::pull_at))]
-#[inline]
+#[inline(always)]
 pub fn pull_at(bytes: &[u8]) -> Result<(Pull, &[u8]), Fault>
     ensures { Gives (λ x. (x.0, x.1.now)) result (reading.pull_at bytes.now) }
 {
@@ -251,7 +251,7 @@ pub fn pull_at(bytes: &[u8]) -> Result<(Pull, &[u8]), Fault>
 
 /// Reads the fields of a page, its entries into the empty page.
 #[tactic(auto, unfolding(crate::specs::Reading::page_at))]
-pub fn page_at<'a>(bytes: &'a [u8], entries: &mut Entries) -> Result<(PageFields, &'a [u8]), Fault>
+pub fn page_at<'a>(bytes: &'a [u8], entries: &mut PageRoom) -> Result<(PageFields, &'a [u8]), Fault>
     requires { entries.old ≡ [] }
     ensures { Gives (λ x. (record { view = x.0.view; first = x.0.first; entries = entries.new }, x.1.now)) result (reading.page_at bytes.now) }
 {
@@ -294,7 +294,7 @@ pub fn route_at(bytes: &[u8]) -> Result<(Route, &[u8]), Fault>
 }
 
 #[tactic(auto, unfolding(crate::specs::Reading::refuse_at))]
-#[inline]
+#[inline(always)]
 pub fn refuse_at(bytes: &[u8]) -> Result<(Refuse, &[u8]), Fault>
     ensures { Gives (λ x. (x.0, x.1.now)) result (reading.refuse_at bytes.now) }
 {
@@ -303,7 +303,7 @@ pub fn refuse_at(bytes: &[u8]) -> Result<(Refuse, &[u8]), Fault>
 }
 
 #[tactic(auto, unfolding(crate::specs::Reading::refused_at))]
-#[inline]
+#[inline(always)]
 pub fn refused_at(bytes: &[u8]) -> Result<(Refused, &[u8]), Fault>
     ensures { Gives (λ x. (x.0, x.1.now)) result (reading.refused_at bytes.now) }
 {

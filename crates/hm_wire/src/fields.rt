@@ -9,7 +9,7 @@ use crate::malformed::Reason;
 
 /// Reads a byte. Here and below, the bytes after what was read stand beside it.
 #[tactic(auto, unfolding(crate::specs::Reading::number_at))]
-#[inline]
+#[inline(always)]
 pub fn u8_at(bytes: &[u8]) -> Result<(u8, &[u8]), Fault>
     ensures { Gives (λ x. (x.0, x.1.now)) result (number_at U8 bytes.now) }
 {
@@ -21,7 +21,7 @@ pub fn u8_at(bytes: &[u8]) -> Result<(u8, &[u8]), Fault>
 
 /// Reads a byte from `low` to `high`; any other is a fault for this reason.
 #[tactic(auto, unfolding(crate::specs::Reading::number_at, crate::specs::Reading::field_at))]
-#[inline]
+#[inline(always)]
 pub fn u8_within(bytes: &[u8], low: u8, high: u8, reason: Reason) -> Result<(u8, &[u8]), Fault>
     ensures given { Gives (λ x. (x.0, x.1.now)) result (field_at U8 (is_within low high) reason bytes.now) }
     ensures within { IfOk result (λ x. (low ≤ x.0) × (x.0 ≤ high)) }
@@ -38,7 +38,7 @@ pub fn u8_within(bytes: &[u8], low: u8, high: u8, reason: Reason) -> Result<(u8,
 
 /// Reads a `u32`.
 #[tactic(auto, unfolding(crate::specs::Reading::number_at))]
-#[inline]
+#[inline(always)]
 pub fn u32_at(bytes: &[u8]) -> Result<(u32, &[u8]), Fault>
     ensures { Gives (λ x. (x.0, x.1.now)) result (number_at U32 bytes.now) }
 {
@@ -52,7 +52,7 @@ pub fn u32_at(bytes: &[u8]) -> Result<(u32, &[u8]), Fault>
 
 /// Reads a `u32` up to `high`; any other is out of range.
 #[tactic(auto, unfolding(crate::specs::Reading::number_at, crate::specs::Reading::field_at))]
-#[inline]
+#[inline(always)]
 pub fn u32_up_to(bytes: &[u8], high: u32) -> Result<(u32, &[u8]), Fault>
     ensures given { Gives (λ x. (x.0, x.1.now)) result (field_at U32 (λ n. nat_le n high) reason.Range bytes.now) }
     ensures within { IfOk result (λ x. x.0 ≤ high) }
@@ -69,7 +69,7 @@ pub fn u32_up_to(bytes: &[u8], high: u32) -> Result<(u32, &[u8]), Fault>
 
 /// Reads a `u64`.
 #[tactic(auto, unfolding(crate::specs::Reading::number_at))]
-#[inline]
+#[inline(always)]
 pub fn u64_at(bytes: &[u8]) -> Result<(u64, &[u8]), Fault>
     ensures { Gives (λ x. (x.0, x.1.now)) result (number_at U64 bytes.now) }
 {

@@ -20,7 +20,7 @@ pub struct Head {
 
 /// Reads the version, the code of the kind, the source and the destination.
 #[tactic(auto, unfolding(crate::specs::Reading::head_at))]
-#[inline]
+#[inline(always)]
 pub fn head_at(bytes: &[u8]) -> Result<(Head, &[u8]), Fault>
     ensures given { Gives (λ x. (x.0, x.1.now)) result (reading.head_at bytes.now) }
     ensures len { IfOk result (λ x. x.0.len ≡ length bytes.now) }

@@ -6,12 +6,12 @@ use crate::fault::{Fault, SHORT};
 use crate::fields::u8_within;
 use crate::malformed::Reason;
 use crate::parts::entry_at;
-use hm_base::entries::Entries;
+use hm_base::entries::PageRoom;
 use hm_base::members::Members;
 
 /// Reads so many entries into the empty page, and answers the bytes after them.
 #[inline]
-fn many_at<'a>(count: u8, bytes: &'a [u8], entries: &mut Entries) -> Result<&'a [u8], Fault>
+fn many_at<'a>(count: u8, bytes: &'a [u8], entries: &mut PageRoom) -> Result<&'a [u8], Fault>
     requires fits { count ≤ 16 }
     requires empty { entries.old ≡ [] }
     ensures { Gives (λ rest. (entries.new, rest.now)) result (reading.many_at count bytes.now) }
@@ -33,7 +33,7 @@ fn many_at<'a>(count: u8, bytes: &'a [u8], entries: &mut Entries) -> Result<&'a 
 
 /// Reads a page into the empty page: the number of its entries, and the entries. It answers the bytes after them.
 #[tactic(auto, unfolding(crate::specs::Reading::entries_at))]
-pub fn entries_at<'a>(bytes: &'a [u8], entries: &mut Entries) -> Result<&'a [u8], Fault>
+pub fn entries_at<'a>(bytes: &'a [u8], entries: &mut PageRoom) -> Result<&'a [u8], Fault>
     requires { entries.old ≡ [] }
     ensures { Gives (λ rest. (entries.new, rest.now)) result (reading.entries_at bytes.now) }
 {

@@ -15,7 +15,7 @@ use hm_base::value::Value;
 
 /// Reads a node.
 #[tactic(auto, unfolding(crate::specs::Reading::node_at))]
-#[inline]
+#[inline(always)]
 pub fn node_at(bytes: &[u8]) -> Result<(Node, &[u8]), Fault>
     ensures given { Gives (λ x. (x.0, x.1.now)) result (reading.node_at bytes.now) }
     ensures lawful { IfOk result (λ x. IsLawfulNode x.0) }
@@ -43,7 +43,7 @@ pub fn node_at(bytes: &[u8]) -> Result<(Node, &[u8]), Fault>
 
 /// Reads a stamp.
 #[tactic(auto, unfolding(crate::specs::Reading::stamp_at))]
-#[inline]
+#[inline(always)]
 pub fn stamp_at(bytes: &[u8]) -> Result<(Stamp, &[u8]), Fault>
     ensures { Gives (λ x. (x.0, x.1.now)) result (reading.stamp_at bytes.now) }
 {
@@ -54,7 +54,7 @@ pub fn stamp_at(bytes: &[u8]) -> Result<(Stamp, &[u8]), Fault>
 
 /// Reads a value's length and its bytes, which stay where they are.
 #[tactic(auto, unfolding(crate::specs::Reading::value_at, crate::specs::Reading::run_at))]
-#[inline]
+#[inline(always)]
 pub fn value_bytes_at(bytes: &[u8]) -> Result<(&[u8], &[u8]), Fault>
     ensures given { Gives (λ x. (x.0.now, x.1.now)) result (reading.value_at bytes.now) }
     ensures fits { IfOk result (λ x. length x.0.now ≤ max_value_len) }
@@ -68,7 +68,7 @@ pub fn value_bytes_at(bytes: &[u8]) -> Result<(&[u8], &[u8]), Fault>
 }
 
 /// Reads a value.
-#[inline]
+#[inline(always)]
 pub fn value_at(bytes: &[u8]) -> Result<(Value, &[u8]), Fault>
     ensures { Gives (λ x. (x.0, x.1.now)) result (reading.value_at bytes.now) }
 {
@@ -81,7 +81,7 @@ pub fn value_at(bytes: &[u8]) -> Result<(Value, &[u8]), Fault>
 
 /// Reads an answer: its tag, and the value that was found.
 #[tactic(auto, unfolding(crate::specs::Reading::answer_at))]
-#[inline]
+#[inline(always)]
 pub fn answer_at(bytes: &[u8]) -> Result<(Answer, &[u8]), Fault>
     ensures { Gives (λ x. (x.0, x.1.now)) result (reading.answer_at bytes.now) }
 {
@@ -98,7 +98,7 @@ pub fn answer_at(bytes: &[u8]) -> Result<(Answer, &[u8]), Fault>
 
 /// Reads what an entry does: its tag, and the value that it puts.
 #[tactic(auto, unfolding(crate::specs::Reading::act_at))]
-#[inline]
+#[inline(always)]
 pub fn act_at(bytes: &[u8]) -> Result<(Act, &[u8]), Fault>
     ensures { Gives (λ x. (x.0, x.1.now)) result (reading.act_at bytes.now) }
 {
@@ -114,7 +114,7 @@ pub fn act_at(bytes: &[u8]) -> Result<(Act, &[u8]), Fault>
 
 /// Reads an entry.
 #[tactic(auto, unfolding(crate::specs::Reading::entry_at))]
-#[inline]
+#[inline(always)]
 pub fn entry_at(bytes: &[u8]) -> Result<(Entry, &[u8]), Fault>
     ensures { Gives (λ x. (x.0, x.1.now)) result (reading.entry_at bytes.now) }
 {
