@@ -1,2 +1,5 @@
 pub mod Bounds
 pub mod Writing
+pub mod Placed
+pub mod Rows
+pub mod Spelled

@@ -2,67 +2,87 @@ ghost use Rattle.std.specs.Prelude.{◌≡◌, ◌≤◌, ◌↔◌, [], ◌++�
 ghost use Rattle.hm_codec.specs.Bounds.{max_len};
 ghost use Rattle.hm_codec.specs.Writing.{Adds};
 
-use arrayvec::ArrayVec;
 use std::marker::Model;
 
-/// How many bytes a [`Buf`] holds at most.
+/// How many bytes a datagram or a frame carries at most.
 pub const MAX_LEN: usize = 2048;
 
-/// At most [`MAX_LEN`] bytes, as one datagram or frame carries them. Contracts see their list.
+/// At most `N` bytes, which lie in the value itself. Contracts see their list.
 #[derive(Drop)]
-pub struct Buf {
-    list: ArrayVec<u8, MAX_LEN>,
+pub struct Buf<const N: usize> {
+    room: [u8; N],
+    len: usize,
 }
 
-impl Model for Buf {
-    ghost use Rattle.std.specs.Prelude.{List, ℕ};
+impl<const N: usize> Model for Buf<N> {
+    ghost use Rattle.std.specs.Prelude.{List, ℕ, take, length, ◌≤◌, ◌≡◌};
 
     ghost Value = { List ℕ };
 
-    ghost view = { λ b. b.list.items };
+    ghost view = { λ b. take b.len b.room };
+
+    ghost invariant = { λ b. (b.len ≤ N) × (length b.room ≡ N) };
 }
 
-impl Buf {
+impl<const N: usize> Buf<N> {
     /// A buffer that holds no bytes.
-    pub fn new() -> Buf
+    pub fn new() -> Buf<N>
         ensures { result ≡ [] }
     {
         Buf {
-            list: ArrayVec::new(),
+            room: [0; N],
+            len: 0,
         }
     }
 
-    /// A buffer that holds these bytes. None exactly above [`MAX_LEN`] bytes.
-    pub fn from_slice(bytes: &[u8]) -> Option<Buf>
-        ensures fits { IsSome result ↔ (length bytes.now ≤ max_len) }
+    /// A buffer that holds these bytes. None exactly above `N` bytes.
+    pub fn from_slice(bytes: &[u8]) -> Option<Buf<N>>
+        ensures fits { IsSome result ↔ (length bytes.now ≤ N) }
         ensures same { IfSome result (λ b. b ≡ bytes.now) }
     {
-        let mut list = ArrayVec::new();
-        match list.try_extend_from_slice(bytes) {
-            Ok(()) => Some(Buf { list }),
-            Err(_) => None,
+        if bytes.len() > N {
+            return None;
         }
+        let mut buf = Buf::new();
+        buf.push(bytes);
+        Some(buf)
     }
 
     /// The bytes.
+    #[inline(always)]
     pub fn as_slice(&self) -> &[u8]
         ensures same { result.now ≡ self.now }
-        ensures fits { length result.now ≤ max_len }
+        ensures fits { length result.now ≤ N }
     {
-        self.list.as_slice()
+        &self.room[..self.len]
+    }
+
+    /// How many bytes there are.
+    #[inline(always)]
+    pub(crate) fn len(&self) -> usize
+        ensures { result ≡ length self.now }
+    {
+        self.len
     }
 
     /// Takes all bytes out.
+    #[inline(always)]
     pub(crate) fn clear(&mut self)
         ensures { self.new ≡ [] }
     {
-        self.list.clear();
+        self.len = 0;
     }
 
     /// Puts bytes behind the others, where there is room for them.
+    #[inline(always)]
     pub(crate) fn push(&mut self, bytes: &[u8])
-        ensures { Adds self.old self.new bytes.now }
+        ensures { Adds N self.old self.new bytes.now }
     {
-        let _ = self.list.try_extend_from_slice(bytes);
+        if bytes.len() <= N - self.len {
+            let end = self.len + bytes.len();
+            let room = &mut self.room[..];
+            room[self.len..end].copy_from_slice(bytes);
+            self.len = end;
+        }
     }
 }

@@ -1,10 +1,11 @@
-ghost use Rattle.std.specs.Prelude.{◌≡◌};
+ghost use Rattle.std.specs.Prelude.{◌≡◌, OnErr};
+ghost use Rattle.hm_codec.specs.Placed.{placed};
 ghost use Rattle.hm_packet.specs.Messages.{IsLawfulNode};
 ghost use Rattle.hm_packet.specs.declared.body.Body.TheVariants as body;
 ghost use Rattle.hm_wire.specs.Reading as reading;
 ghost use Rattle.hm_wire.specs.Reading.{located, end_with, as_body};
 
-use hm_base::entries::Entries;
+use hm_base::entries::PageRoom;
 use hm_packet::body::{Body, Feed, Page};
 use hm_packet::packet::Packet;
 use hm_wire::bodies::{
@@ -16,18 +17,18 @@ use hm_wire::fault::{Fault, malformed};
 use hm_wire::head::Head;
 use hm_wire::malformed::{Malformed, Reason};
 
-/// The packet of a body that was read to the end of the bytes, or the fault. Each kind has a function of its own, since a
-/// function pays at entry for the size of its locals, and a `Body` is large.
+/// Puts the packet of a body that was read to the end of the bytes in its place, or answers the fault.
 macro_rules! packet {
-    ($head:expr, $read:expr, $fields:ident, $body:expr) => {
+    ($packet:expr, $head:expr, $read:expr, $fields:ident, $body:expr) => {
         match $read {
             Ok(($fields, rest)) => {
                 if rest.is_empty() {
-                    Ok(Packet {
+                    *$packet = Packet {
                         src: $head.src,
                         dst: $head.dst,
                         body: $body,
-                    })
+                    };
+                    Ok(())
                 } else {
                     let fault = Fault {
                         left: rest.len(),
@@ -42,48 +43,54 @@ macro_rules! packet {
 }
 
 /// Reads the packet of a read.
-pub(crate) fn read_packet(head: Head, bytes: &[u8]) -> Result<Packet, Malformed>
+pub(crate) fn read_packet(head: Head, bytes: &[u8], packet: &mut Packet) -> Result<(), Malformed>
     requires src { IsLawfulNode head.src }
     requires dst { IsLawfulNode head.dst }
-    ensures { result ≡ located head.len (end_with head.src head.dst (as_body (λ b. body.Read b) (reading.read_at bytes.now))) }
+    ensures read { placed result packet.new ≡ located head.len (end_with head.src head.dst (as_body (λ b. body.Read b) (reading.read_at bytes.now))) }
+    ensures err { OnErr result (packet.new ≡ packet.old) }
 {
-    packet!(head, read_at(bytes), fields, Body::Read(fields))
+    packet!(packet, head, read_at(bytes), fields, Body::Read(fields))
 }
 
 /// Reads the packet of a write.
-pub(crate) fn write_packet(head: Head, bytes: &[u8]) -> Result<Packet, Malformed>
+pub(crate) fn write_packet(head: Head, bytes: &[u8], packet: &mut Packet) -> Result<(), Malformed>
     requires src { IsLawfulNode head.src }
     requires dst { IsLawfulNode head.dst }
-    ensures { result ≡ located head.len (end_with head.src head.dst (as_body (λ b. body.Write b) (reading.write_at bytes.now))) }
+    ensures read { placed result packet.new ≡ located head.len (end_with head.src head.dst (as_body (λ b. body.Write b) (reading.write_at bytes.now))) }
+    ensures err { OnErr result (packet.new ≡ packet.old) }
 {
-    packet!(head, write_at(bytes), fields, Body::Write(fields))
+    packet!(packet, head, write_at(bytes), fields, Body::Write(fields))
 }
 
 /// Reads the packet of a numbered write.
-pub(crate) fn put_packet(head: Head, bytes: &[u8]) -> Result<Packet, Malformed>
+pub(crate) fn put_packet(head: Head, bytes: &[u8], packet: &mut Packet) -> Result<(), Malformed>
     requires src { IsLawfulNode head.src }
     requires dst { IsLawfulNode head.dst }
-    ensures { result ≡ located head.len (end_with head.src head.dst (as_body (λ b. body.Put b) (reading.put_at bytes.now))) }
+    ensures read { placed result packet.new ≡ located head.len (end_with head.src head.dst (as_body (λ b. body.Put b) (reading.put_at bytes.now))) }
+    ensures err { OnErr result (packet.new ≡ packet.old) }
 {
-    packet!(head, put_at(bytes), fields, Body::Put(fields))
+    packet!(packet, head, put_at(bytes), fields, Body::Put(fields))
 }
 
 /// Reads the packet of a stamped read.
-pub(crate) fn fast_read_packet(head: Head, bytes: &[u8]) -> Result<Packet, Malformed>
+pub(crate) fn fast_read_packet(head: Head, bytes: &[u8], packet: &mut Packet) -> Result<(), Malformed>
     requires src { IsLawfulNode head.src }
     requires dst { IsLawfulNode head.dst }
-    ensures { result ≡ located head.len (end_with head.src head.dst (as_body (λ b. body.FastRead b) (reading.fast_read_at bytes.now))) }
+    ensures read { placed result packet.new ≡ located head.len (end_with head.src head.dst (as_body (λ b. body.FastRead b) (reading.fast_read_at bytes.now))) }
+    ensures err { OnErr result (packet.new ≡ packet.old) }
 {
-    packet!(head, fast_read_at(bytes), fields, Body::FastRead(fields))
+    packet!(packet, head, fast_read_at(bytes), fields, Body::FastRead(fields))
 }
 
 /// Reads the packet of a read that goes the normal way.
-pub(crate) fn normal_read_packet(head: Head, bytes: &[u8]) -> Result<Packet, Malformed>
+pub(crate) fn normal_read_packet(head: Head, bytes: &[u8], packet: &mut Packet) -> Result<(), Malformed>
     requires src { IsLawfulNode head.src }
     requires dst { IsLawfulNode head.dst }
-    ensures { result ≡ located head.len (end_with head.src head.dst (as_body (λ b. body.NormalRead b) (reading.normal_read_at bytes.now))) }
+    ensures read { placed result packet.new ≡ located head.len (end_with head.src head.dst (as_body (λ b. body.NormalRead b) (reading.normal_read_at bytes.now))) }
+    ensures err { OnErr result (packet.new ≡ packet.old) }
 {
     packet!(
+        packet,
         head,
         normal_read_at(bytes),
         fields,
@@ -92,78 +99,92 @@ pub(crate) fn normal_read_packet(head: Head, bytes: &[u8]) -> Result<Packet, Mal
 }
 
 /// Reads the packet of a completion.
-pub(crate) fn done_packet(head: Head, bytes: &[u8]) -> Result<Packet, Malformed>
+pub(crate) fn done_packet(head: Head, bytes: &[u8], packet: &mut Packet) -> Result<(), Malformed>
     requires src { IsLawfulNode head.src }
     requires dst { IsLawfulNode head.dst }
-    ensures { result ≡ located head.len (end_with head.src head.dst (as_body (λ b. body.Done b) (reading.done_at bytes.now))) }
+    ensures read { placed result packet.new ≡ located head.len (end_with head.src head.dst (as_body (λ b. body.Done b) (reading.done_at bytes.now))) }
+    ensures err { OnErr result (packet.new ≡ packet.old) }
 {
-    packet!(head, done_at(bytes), fields, Body::Done(fields))
+    packet!(packet, head, done_at(bytes), fields, Body::Done(fields))
 }
 
 /// Reads the packet of an answer.
-pub(crate) fn reply_packet(head: Head, bytes: &[u8]) -> Result<Packet, Malformed>
+pub(crate) fn reply_packet(head: Head, bytes: &[u8], packet: &mut Packet) -> Result<(), Malformed>
     requires src { IsLawfulNode head.src }
     requires dst { IsLawfulNode head.dst }
-    ensures { result ≡ located head.len (end_with head.src head.dst (as_body (λ b. body.Reply b) (reading.reply_at bytes.now))) }
+    ensures read { placed result packet.new ≡ located head.len (end_with head.src head.dst (as_body (λ b. body.Reply b) (reading.reply_at bytes.now))) }
+    ensures err { OnErr result (packet.new ≡ packet.old) }
 {
-    packet!(head, reply_at(bytes), fields, Body::Reply(fields))
+    packet!(packet, head, reply_at(bytes), fields, Body::Reply(fields))
 }
 
 /// Reads the packet of a page from a log.
-pub(crate) fn feed_packet(head: Head, bytes: &[u8]) -> Result<Packet, Malformed>
+pub(crate) fn feed_packet<'a>(
+    head: Head,
+    bytes: &[u8],
+    room: &'a mut PageRoom,
+    packet: &mut Packet<'a>,
+) -> Result<(), Malformed>
     requires src { IsLawfulNode head.src }
     requires dst { IsLawfulNode head.dst }
-    ensures { result ≡ located head.len (end_with head.src head.dst (as_body (λ b. body.Feed b) (reading.feed_at bytes.now))) }
+    ensures read { placed result packet.new ≡ located head.len (end_with head.src head.dst (as_body (λ b. body.Feed b) (reading.feed_at bytes.now))) }
+    ensures err { OnErr result (packet.new ≡ packet.old) }
 {
-    let mut entries = Entries::new();
+    room.clear();
     packet!(
+        packet,
         head,
-        feed_at(bytes, &mut entries),
+        feed_at(bytes, room),
         fields,
         Body::Feed(Feed {
             view: fields.view,
             start: fields.start,
             first: fields.first,
             commit: fields.commit,
-            entries,
+            entries: room.entries(),
         })
     )
 }
 
 /// Reads the packet of how long a list is held.
-pub(crate) fn feed_ack_packet(head: Head, bytes: &[u8]) -> Result<Packet, Malformed>
+pub(crate) fn feed_ack_packet(head: Head, bytes: &[u8], packet: &mut Packet) -> Result<(), Malformed>
     requires src { IsLawfulNode head.src }
     requires dst { IsLawfulNode head.dst }
-    ensures { result ≡ located head.len (end_with head.src head.dst (as_body (λ b. body.FeedAck b) (reading.feed_ack_at bytes.now))) }
+    ensures read { placed result packet.new ≡ located head.len (end_with head.src head.dst (as_body (λ b. body.FeedAck b) (reading.feed_ack_at bytes.now))) }
+    ensures err { OnErr result (packet.new ≡ packet.old) }
 {
-    packet!(head, feed_ack_at(bytes), fields, Body::FeedAck(fields))
+    packet!(packet, head, feed_ack_at(bytes), fields, Body::FeedAck(fields))
 }
 
 /// Reads the packet of a call for a completion.
-pub(crate) fn ask_packet(head: Head, bytes: &[u8]) -> Result<Packet, Malformed>
+pub(crate) fn ask_packet(head: Head, bytes: &[u8], packet: &mut Packet) -> Result<(), Malformed>
     requires src { IsLawfulNode head.src }
     requires dst { IsLawfulNode head.dst }
-    ensures { result ≡ located head.len (end_with head.src head.dst (as_body (λ b. body.Ask b) (reading.ask_at bytes.now))) }
+    ensures read { placed result packet.new ≡ located head.len (end_with head.src head.dst (as_body (λ b. body.Ask b) (reading.ask_at bytes.now))) }
+    ensures err { OnErr result (packet.new ≡ packet.old) }
 {
-    packet!(head, ask_at(bytes), fields, Body::Ask(fields))
+    packet!(packet, head, ask_at(bytes), fields, Body::Ask(fields))
 }
 
 /// Reads the packet of how much is committed.
-pub(crate) fn known_packet(head: Head, bytes: &[u8]) -> Result<Packet, Malformed>
+pub(crate) fn known_packet(head: Head, bytes: &[u8], packet: &mut Packet) -> Result<(), Malformed>
     requires src { IsLawfulNode head.src }
     requires dst { IsLawfulNode head.dst }
-    ensures { result ≡ located head.len (end_with head.src head.dst (as_body (λ b. body.Known b) (reading.known_at bytes.now))) }
+    ensures read { placed result packet.new ≡ located head.len (end_with head.src head.dst (as_body (λ b. body.Known b) (reading.known_at bytes.now))) }
+    ensures err { OnErr result (packet.new ≡ packet.old) }
 {
-    packet!(head, known_at(bytes), fields, Body::Known(fields))
+    packet!(packet, head, known_at(bytes), fields, Body::Known(fields))
 }
 
 /// Reads the packet of a view that is entered.
-pub(crate) fn start_view_change_packet(head: Head, bytes: &[u8]) -> Result<Packet, Malformed>
+pub(crate) fn start_view_change_packet(head: Head, bytes: &[u8], packet: &mut Packet) -> Result<(), Malformed>
     requires src { IsLawfulNode head.src }
     requires dst { IsLawfulNode head.dst }
-    ensures { result ≡ located head.len (end_with head.src head.dst (as_body (λ b. body.StartViewChange b) (reading.start_view_change_at bytes.now))) }
+    ensures read { placed result packet.new ≡ located head.len (end_with head.src head.dst (as_body (λ b. body.StartViewChange b) (reading.start_view_change_at bytes.now))) }
+    ensures err { OnErr result (packet.new ≡ packet.old) }
 {
     packet!(
+        packet,
         head,
         start_view_change_at(bytes),
         fields,
@@ -172,74 +193,87 @@ pub(crate) fn start_view_change_packet(head: Head, bytes: &[u8]) -> Result<Packe
 }
 
 /// Reads the packet of a vote.
-pub(crate) fn vote_packet(head: Head, bytes: &[u8]) -> Result<Packet, Malformed>
+pub(crate) fn vote_packet(head: Head, bytes: &[u8], packet: &mut Packet) -> Result<(), Malformed>
     requires src { IsLawfulNode head.src }
     requires dst { IsLawfulNode head.dst }
-    ensures { result ≡ located head.len (end_with head.src head.dst (as_body (λ b. body.Vote b) (reading.vote_at bytes.now))) }
+    ensures read { placed result packet.new ≡ located head.len (end_with head.src head.dst (as_body (λ b. body.Vote b) (reading.vote_at bytes.now))) }
+    ensures err { OnErr result (packet.new ≡ packet.old) }
 {
-    packet!(head, vote_at(bytes), fields, Body::Vote(fields))
+    packet!(packet, head, vote_at(bytes), fields, Body::Vote(fields))
 }
 
 /// Reads the packet of a call for a log.
-pub(crate) fn pull_packet(head: Head, bytes: &[u8]) -> Result<Packet, Malformed>
+pub(crate) fn pull_packet(head: Head, bytes: &[u8], packet: &mut Packet) -> Result<(), Malformed>
     requires src { IsLawfulNode head.src }
     requires dst { IsLawfulNode head.dst }
-    ensures { result ≡ located head.len (end_with head.src head.dst (as_body (λ b. body.Pull b) (reading.pull_at bytes.now))) }
+    ensures read { placed result packet.new ≡ located head.len (end_with head.src head.dst (as_body (λ b. body.Pull b) (reading.pull_at bytes.now))) }
+    ensures err { OnErr result (packet.new ≡ packet.old) }
 {
-    packet!(head, pull_at(bytes), fields, Body::Pull(fields))
+    packet!(packet, head, pull_at(bytes), fields, Body::Pull(fields))
 }
 
 /// Reads the packet of a page of the chosen log.
-pub(crate) fn page_packet(head: Head, bytes: &[u8]) -> Result<Packet, Malformed>
+pub(crate) fn page_packet<'a>(
+    head: Head,
+    bytes: &[u8],
+    room: &'a mut PageRoom,
+    packet: &mut Packet<'a>,
+) -> Result<(), Malformed>
     requires src { IsLawfulNode head.src }
     requires dst { IsLawfulNode head.dst }
-    ensures { result ≡ located head.len (end_with head.src head.dst (as_body (λ b. body.Page b) (reading.page_at bytes.now))) }
+    ensures read { placed result packet.new ≡ located head.len (end_with head.src head.dst (as_body (λ b. body.Page b) (reading.page_at bytes.now))) }
+    ensures err { OnErr result (packet.new ≡ packet.old) }
 {
-    let mut entries = Entries::new();
+    room.clear();
     packet!(
+        packet,
         head,
-        page_at(bytes, &mut entries),
+        page_at(bytes, room),
         fields,
         Body::Page(Page {
             view: fields.view,
             first: fields.first,
-            entries,
+            entries: room.entries(),
         })
     )
 }
 
 /// Reads the packet of the members of an epoch.
-pub(crate) fn config_packet(head: Head, bytes: &[u8]) -> Result<Packet, Malformed>
+pub(crate) fn config_packet(head: Head, bytes: &[u8], packet: &mut Packet) -> Result<(), Malformed>
     requires src { IsLawfulNode head.src }
     requires dst { IsLawfulNode head.dst }
-    ensures { result ≡ located head.len (end_with head.src head.dst (as_body (λ b. body.Config b) (reading.config_at bytes.now))) }
+    ensures read { placed result packet.new ≡ located head.len (end_with head.src head.dst (as_body (λ b. body.Config b) (reading.config_at bytes.now))) }
+    ensures err { OnErr result (packet.new ≡ packet.old) }
 {
-    packet!(head, config_at(bytes), fields, Body::Config(fields))
+    packet!(packet, head, config_at(bytes), fields, Body::Config(fields))
 }
 
 /// Reads the packet of a route.
-pub(crate) fn route_packet(head: Head, bytes: &[u8]) -> Result<Packet, Malformed>
+pub(crate) fn route_packet(head: Head, bytes: &[u8], packet: &mut Packet) -> Result<(), Malformed>
     requires src { IsLawfulNode head.src }
     requires dst { IsLawfulNode head.dst }
-    ensures { result ≡ located head.len (end_with head.src head.dst (as_body (λ b. body.Route b) (reading.route_at bytes.now))) }
+    ensures read { placed result packet.new ≡ located head.len (end_with head.src head.dst (as_body (λ b. body.Route b) (reading.route_at bytes.now))) }
+    ensures err { OnErr result (packet.new ≡ packet.old) }
 {
-    packet!(head, route_at(bytes), fields, Body::Route(fields))
+    packet!(packet, head, route_at(bytes), fields, Body::Route(fields))
 }
 
 /// Reads the packet of a switch to be refused.
-pub(crate) fn refuse_packet(head: Head, bytes: &[u8]) -> Result<Packet, Malformed>
+pub(crate) fn refuse_packet(head: Head, bytes: &[u8], packet: &mut Packet) -> Result<(), Malformed>
     requires src { IsLawfulNode head.src }
     requires dst { IsLawfulNode head.dst }
-    ensures { result ≡ located head.len (end_with head.src head.dst (as_body (λ b. body.Refuse b) (reading.refuse_at bytes.now))) }
+    ensures read { placed result packet.new ≡ located head.len (end_with head.src head.dst (as_body (λ b. body.Refuse b) (reading.refuse_at bytes.now))) }
+    ensures err { OnErr result (packet.new ≡ packet.old) }
 {
-    packet!(head, refuse_at(bytes), fields, Body::Refuse(fields))
+    packet!(packet, head, refuse_at(bytes), fields, Body::Refuse(fields))
 }
 
 /// Reads the packet of a refused switch.
-pub(crate) fn refused_packet(head: Head, bytes: &[u8]) -> Result<Packet, Malformed>
+pub(crate) fn refused_packet(head: Head, bytes: &[u8], packet: &mut Packet) -> Result<(), Malformed>
     requires src { IsLawfulNode head.src }
     requires dst { IsLawfulNode head.dst }
-    ensures { result ≡ located head.len (end_with head.src head.dst (as_body (λ b. body.Refused b) (reading.refused_at bytes.now))) }
+    ensures read { placed result packet.new ≡ located head.len (end_with head.src head.dst (as_body (λ b. body.Refused b) (reading.refused_at bytes.now))) }
+    ensures err { OnErr result (packet.new ≡ packet.old) }
 {
-    packet!(head, refused_at(bytes), fields, Body::Refused(fields))
+    packet!(packet, head, refused_at(bytes), fields, Body::Refused(fields))
 }

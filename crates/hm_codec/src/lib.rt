@@ -1,7 +1,12 @@
-//! Packets as bytes: writing the one spelling of each, and reading it, or finding the first fault.
+//! Packets as bytes: writing the one spelling of each, reading it, or finding the first fault, and keeping packets as spellings.
 #![tactic(auto)]
 
+pub mod acted;
+mod bodies;
 pub mod buf;
 pub mod decode;
 pub mod encode;
 mod kinds;
+pub mod outs;
+mod parts;
+pub mod spellings;
