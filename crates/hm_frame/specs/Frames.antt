@@ -60,6 +60,12 @@ pub record Takes (m : Message) (old new : List ℕ) : Type 0 where
   pub lawful : HasSpelling m
   pub parts : old ≡ frame m ++ new
 
+-- what was answered, with the packet that then stands in its place
+abbrev pub answered : Result Bool Malformed → Message → Result (Option Message) Malformed
+answered (Ok true) packet = Ok (Some packet)
+answered (Ok false) packet = Ok None
+answered (Err fault) packet = Err fault
+
 -- what was answered of the first frame, and what is held then
 abbrev pub Answers : Result (Option Message) Malformed → List ℕ → List ℕ → Type 0
 Answers (Ok (Some m)) old new = Takes m old new

@@ -1,10 +1,12 @@
-ghost use Rattle.std.specs.Prelude.{◌≡◌, ◌<◌, ◌≤◌, ◌↔◌, [], ◌++◌, None, Ok, Err, length, take, ◌+◌, OnOk, OnErr, IfOk, IfSome, IfNone};
+ghost use Rattle.std.specs.Prelude.{◌⊎◌, true, false, ◌≡◌, ◌<◌, ◌≤◌, ◌↔◌, [], ◌++◌, None, Ok, Err, length, take, ◌+◌, OnOk, OnErr, IfOk, IfSome, IfNone};
 ghost use Rattle.std.specs.Int.{w16, to_be_bytes};
 ghost use Rattle.hm_base.specs.Lists.{IsPrefix};
-ghost use Rattle.hm_frame.specs.Frames.{head_len, max_payload_len, frame, payload_len, IsPart, IsAtFault, Answers, HasFrame, Tells};
+ghost use Rattle.hm_frame.specs.Frames.{head_len, max_payload_len, frame, payload_len, IsPart, IsAtFault, Answers, answered, HasFrame, Tells};
 ghost use Rattle.hm_wire.specs.declared.malformed.Malformed.{Malformed};
 
 use bytes::BytesMut;
+use hm_base::buffer::Text;
+use hm_base::entries::PageRoom;
 use hm_base::memory::NoMemory;
 use hm_codec::buf::{Buf, MAX_LEN};
 use hm_codec::decode::decode;
@@ -23,7 +25,7 @@ pub const HEAD_LEN: usize = 2;
 
 /// Writes a packet's frame into the buffer, over what was there: the length of the packet's spelling in two bytes, the higher
 /// one first, and the spelling. It takes no memory.
-pub fn frame(packet: &Packet, buf: &mut Buf)
+pub fn frame(packet: &Packet, buf: &mut Buf<MAX_LEN>)
     ensures { buf.new ≡ frame packet.now }
 {
     encode(packet, buf);
@@ -70,21 +72,27 @@ impl Unframer {
         Ok(())
     }
 
-    /// Takes the packet of the next frame: None while the frame isn't there to its end. The place of a fault counts from the
-    /// frame's first byte, and from then on each call answers the same fault. It takes no memory.
-    pub fn next(&mut self) -> Result<Option<Packet>, Malformed>
-        ensures answer { Answers result self.old self.new }
-        ensures none { (result ≡ Ok None) ↔ IsPart self.old }
+    /// Takes the next frame and puts its packet in its place, with its page, if it has one, in the room: false while the frame isn't
+    /// there to its end. The place of a fault counts from the frame's first byte, and from then on each call answers the same
+    /// fault. It takes no memory.
+    pub fn next<'a>(
+        &mut self,
+        room: &'a mut PageRoom,
+        packet: &mut Packet<'a>,
+    ) -> Result<bool, Malformed>
+        ensures answer { Answers (answered result packet.new) self.old self.new }
+        ensures none { (result ≡ Ok false) ↔ IsPart self.old }
         ensures fault { (fault : Malformed) → (result ≡ Err fault) ↔ IsAtFault self.old fault }
+        ensures same { (result ≡ Ok true) ⊎ (packet.new ≡ packet.old) }
     {
         let Some(len) = self.next_len()? else {
-            return Ok(None);
+            return Ok(false);
         };
         let end = HEAD_LEN + len;
-        match decode(&self.bytes.as_slice()[HEAD_LEN..end]) {
-            Ok(packet) => {
+        match decode(&self.bytes.as_slice()[HEAD_LEN..end], room, packet) {
+            Ok(()) => {
                 self.bytes.advance(end);
-                Ok(Some(packet))
+                Ok(true)
             }
             Err(inner) => Err(behind_head(inner)),
         }
@@ -92,7 +100,7 @@ impl Unframer {
 
     /// Takes the next frame and appends its packet's text: false while the frame isn't there to its end. Faults are as those of
     /// [`Unframer::next`], and then `out` is as it was. After want of memory `out` begins with what it held, and the frame is held.
-    pub fn next_text(&mut self, out: &mut Vec<u8>) -> Result<Result<bool, Malformed>, NoMemory>
+    pub fn next_text(&mut self, out: &mut Text) -> Result<Result<bool, Malformed>, NoMemory>
         ensures ok { IfOk result (λ r. Tells r self.old self.new out.old.items out.new.items) }
         ensures err { OnErr result (self.new ≡ self.old) }
         ensures front { IsPrefix out.old.items out.new.items }

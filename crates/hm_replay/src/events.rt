@@ -6,6 +6,7 @@ ghost use Rattle.hm_schedule.specs.Setups.{event_of};
 ghost use Rattle.hm_world.specs.WorldFields.{with_slots};
 
 use crate::run_text::{write_marks, write_outcome, write_sent};
+use hm_base::buffer::Text;
 use hm_base::memory::NoMemory;
 use hm_order::mark::Mark;
 use hm_schedule::event::Event;
@@ -15,7 +16,7 @@ use hm_world::world::World;
 pub(crate) fn write_event(
     world: &mut World,
     event: &Event,
-    text: &mut Vec<u8>,
+    text: &mut Text,
 ) -> Result<(), NoMemory>
     requires { world.old.events < max_events }
     ensures text { OnOk result (text.new.items ≡ event_text (world.old.events + 1) world.old.world (slot_happens (with_slots world.old) (event_of event.now))) }
@@ -32,14 +33,14 @@ pub(crate) fn write_event(
 }
 
 /// Appends the lines of the marks from this place on, counted from 0.
-fn write_marks_from(marks: &[Mark], first: usize, text: &mut Vec<u8>) -> Result<(), NoMemory>
+fn write_marks_from(marks: &[Mark], first: usize, text: &mut Text) -> Result<(), NoMemory>
     ensures { OnOk result (text.new.items ≡ text.old.items ++ flat_map mark_line (drop first marks.now)) }
 {
     write_marks(&marks[first.min(marks.len())..], text)
 }
 
 /// Appends the lines of the packets sent after the first ones.
-fn write_sent_from(world: &World, before: u32, text: &mut Vec<u8>) -> Result<(), NoMemory>
+fn write_sent_from(world: &World, before: u32, text: &mut Text) -> Result<(), NoMemory>
     ensures { OnOk result (text.new.items ≡ text.old.items ++ packet_lines (before + 1) (drop before world.now.world.net)) }
 {
     for i in before..world.sent_count() {

@@ -146,7 +146,7 @@ fn replay<S: Source, K: Sink>(alloc: Global, source: &mut S, sink: &mut K) -> St
 fn finish<K: Sink>(
     alloc: Global,
     world: &World,
-    text: &mut Vec<u8>,
+    text: &mut Text,
     sink: &mut K,
 ) -> Result<(), NotPut>
     ensures { Puts result (order_text (order world.now.world.history)) (K.held sink.old) (K.held sink.new) (K.faults sink.old) (K.faults sink.new) }
@@ -165,7 +165,7 @@ fn finish<K: Sink>(
 fn refuse<K: Sink>(
     line: u32,
     reason: LineReason,
-    text: &mut Vec<u8>,
+    text: &mut Text,
     sink: &mut K,
 ) -> Result<(), NotPut>
     ensures { Puts result (bad_text line (reason_text reason)) (K.held sink.old) (K.held sink.new) (K.faults sink.old) (K.faults sink.new) }

@@ -2,6 +2,7 @@ ghost use Rattle.std.specs.Prelude.{◌≡◌, [], ◌∷◌, ◌++◌, OnOk, fl
 ghost use Rattle.hm_rules.specs.RunText.{why_text, bar_text, outcome_line, mark_line, packet_lines, order_text, place_line, bad_text};
 ghost use Rattle.hm_schedule.specs.Reasons.{reason_text};
 
+use hm_base::buffer::Text;
 use hm_base::memory::NoMemory;
 use hm_base::operation::OpId;
 use hm_base::text::{write_answer, write_bytes, write_number, write_op, write_stamp};
@@ -72,7 +73,7 @@ fn reason_name(reason: LineReason) -> &'static str
 
 /// Appends the line of an event: its number and how it ended. After want of memory `out` may hold a part of it, here and in
 /// the other calls of this module.
-pub fn write_outcome(number: u32, outcome: Outcome, out: &mut Vec<u8>) -> Result<(), NoMemory>
+pub fn write_outcome(number: u32, outcome: Outcome, out: &mut Text) -> Result<(), NoMemory>
     ensures { OnOk result (out.new.items ≡ out.old.items ++ outcome_line number outcome) }
 {
     write_bytes(b"event ", out)?;
@@ -88,7 +89,7 @@ pub fn write_outcome(number: u32, outcome: Outcome, out: &mut Vec<u8>) -> Result
 }
 
 /// Appends the end of a line: a word, and a reason's name.
-fn write_reason(word: &[u8], name: &str, out: &mut Vec<u8>) -> Result<(), NoMemory>
+fn write_reason(word: &[u8], name: &str, out: &mut Text) -> Result<(), NoMemory>
     ensures { OnOk result (out.new.items ≡ out.old.items ++ (word.now ++ (name.now ++ codes "\n"))) }
 {
     write_bytes(word, out)?;
@@ -97,7 +98,7 @@ fn write_reason(word: &[u8], name: &str, out: &mut Vec<u8>) -> Result<(), NoMemo
 }
 
 /// Appends a mark's line.
-pub fn write_mark(mark: &Mark, out: &mut Vec<u8>) -> Result<(), NoMemory>
+pub fn write_mark(mark: &Mark, out: &mut Text) -> Result<(), NoMemory>
     ensures { OnOk result (out.new.items ≡ out.old.items ++ mark_line mark.now) }
 {
     match mark {
@@ -128,7 +129,7 @@ pub fn write_mark(mark: &Mark, out: &mut Vec<u8>) -> Result<(), NoMemory>
 }
 
 /// Appends the marks' lines.
-pub fn write_marks(marks: &[Mark], out: &mut Vec<u8>) -> Result<(), NoMemory>
+pub fn write_marks(marks: &[Mark], out: &mut Text) -> Result<(), NoMemory>
     ensures { OnOk result (out.new.items ≡ out.old.items ++ flat_map mark_line marks.now) }
 {
     for mark in marks {
@@ -138,7 +139,7 @@ pub fn write_marks(marks: &[Mark], out: &mut Vec<u8>) -> Result<(), NoMemory>
 }
 
 /// Appends a packet's line: its number, counted from 1, and its text.
-pub fn write_sent(number: u32, packet: &Packet, out: &mut Vec<u8>) -> Result<(), NoMemory>
+pub fn write_sent(number: u32, packet: &Packet, out: &mut Text) -> Result<(), NoMemory>
     ensures { OnOk result (out.new.items ≡ out.old.items ++ packet_lines number (packet.now ∷ [])) }
 {
     write_bytes(b"packet ", out)?;
@@ -149,7 +150,7 @@ pub fn write_sent(number: u32, packet: &Packet, out: &mut Vec<u8>) -> Result<(),
 }
 
 /// Appends the end of a whole run's text: the operations in their order.
-pub fn write_order(ops: &[OpId], out: &mut Vec<u8>) -> Result<(), NoMemory>
+pub fn write_order(ops: &[OpId], out: &mut Text) -> Result<(), NoMemory>
     ensures { OnOk result (out.new.items ≡ out.old.items ++ order_text ops.now) }
 {
     write_bytes(b"order ", out)?;
@@ -162,7 +163,7 @@ pub fn write_order(ops: &[OpId], out: &mut Vec<u8>) -> Result<(), NoMemory>
 }
 
 /// Appends the line of an operation in the order.
-fn write_place(op: OpId, out: &mut Vec<u8>) -> Result<(), NoMemory>
+fn write_place(op: OpId, out: &mut Text) -> Result<(), NoMemory>
     ensures { OnOk result (out.new.items ≡ out.old.items ++ place_line op) }
 {
     write_bytes(b"place ", out)?;
@@ -171,7 +172,7 @@ fn write_place(op: OpId, out: &mut Vec<u8>) -> Result<(), NoMemory>
 }
 
 /// Appends the last line of a run whose schedule has a line outside the grammar: its number, counted from 1, and why.
-pub fn write_bad(line: u32, reason: LineReason, out: &mut Vec<u8>) -> Result<(), NoMemory>
+pub fn write_bad(line: u32, reason: LineReason, out: &mut Text) -> Result<(), NoMemory>
     ensures { OnOk result (out.new.items ≡ out.old.items ++ bad_text line (reason_text reason)) }
 {
     write_bytes(b"bad ", out)?;

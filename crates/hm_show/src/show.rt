@@ -10,6 +10,7 @@ ghost use Rattle.hm_show.specs.Steps.{TakesFrames, answer_of};
 
 use crate::text::{write_closing, write_next_line};
 use crate::verdict::{Verdict, verdict_at_end};
+use hm_base::buffer::Text;
 use hm_base::memory::NoMemory;
 use hm_frame::frame::Unframer;
 use hm_frame::law::{bytes_begin_with_one_frame, pieces_give_the_same_packets};
@@ -101,7 +102,7 @@ fn show_frames<S: Source, K: Sink>(alloc: Global, source: &mut S, sink: &mut K) 
 fn write_frames(
     unframer: &mut Unframer,
     count: &mut u32,
-    text: &mut Vec<u8>,
+    text: &mut Text,
 ) -> Result<Option<Verdict>, NoMemory>
     requires { count.old ≤ max_frames }
     ensures { TakesFrames result unframer.old unframer.new count.old count.new text.old.items text.new.items }
@@ -124,7 +125,7 @@ fn write_frames(
 fn close<K: Sink>(
     verdict: Verdict,
     count: u32,
-    text: &mut Vec<u8>,
+    text: &mut Text,
     sink: &mut K,
 ) -> Result<(), NotPut>
     requires { count ≤ max_frames }

@@ -4,6 +4,7 @@ ghost use Rattle.hm_show.specs.Steps.{TakesLine};
 ghost use Rattle.hm_show.specs.Shows.{max_frames, reason_text, end_text, bad_frame_text, closing_text};
 
 use crate::verdict::Verdict;
+use hm_base::buffer::Text;
 use hm_base::memory::NoMemory;
 use hm_base::text::{write_bytes, write_number};
 use hm_frame::frame::Unframer;
@@ -15,7 +16,7 @@ use hm_wire::malformed::{Malformed, Reason};
 pub fn write_next_line(
     unframer: &mut Unframer,
     number: u32,
-    out: &mut Vec<u8>,
+    out: &mut Text,
 ) -> Result<Result<bool, Malformed>, NoMemory>
     ensures { IfOk result (λ r. TakesLine r number unframer.old unframer.new out.old.items out.new.items) }
 {
@@ -33,7 +34,7 @@ pub fn write_next_line(
 }
 
 /// Appends the last line where the input was frames to its end: how many.
-fn write_end(count: u32, out: &mut Vec<u8>) -> Result<(), NoMemory>
+fn write_end(count: u32, out: &mut Text) -> Result<(), NoMemory>
     ensures { OnOk result (out.new.items ≡ out.old.items ++ end_text count) }
 {
     write_bytes(b"end ", out)?;
@@ -42,7 +43,7 @@ fn write_end(count: u32, out: &mut Vec<u8>) -> Result<(), NoMemory>
 }
 
 /// Appends the last line where a frame is at fault: its number, and the place and the reason of the fault.
-fn write_bad_frame(number: u32, fault: Malformed, out: &mut Vec<u8>) -> Result<(), NoMemory>
+fn write_bad_frame(number: u32, fault: Malformed, out: &mut Text) -> Result<(), NoMemory>
     ensures { OnOk result (out.new.items ≡ out.old.items ++ bad_frame_text number fault) }
 {
     write_bytes(b"bad ", out)?;
@@ -55,7 +56,7 @@ fn write_bad_frame(number: u32, fault: Malformed, out: &mut Vec<u8>) -> Result<(
 }
 
 /// Appends the last line where the input goes on past the limit: the number of the line or frame that is one too many.
-pub fn write_too_long(number: u32, out: &mut Vec<u8>) -> Result<(), NoMemory>
+pub fn write_too_long(number: u32, out: &mut Text) -> Result<(), NoMemory>
     ensures { OnOk result (out.new.items ≡ out.old.items ++ too_long_text number) }
 {
     write_bytes(b"toolong ", out)?;
@@ -64,7 +65,7 @@ pub fn write_too_long(number: u32, out: &mut Vec<u8>) -> Result<(), NoMemory>
 }
 
 /// Appends the end of the text after so many packets.
-pub(crate) fn write_closing(verdict: Verdict, count: u32, out: &mut Vec<u8>) -> Result<(), NoMemory>
+pub(crate) fn write_closing(verdict: Verdict, count: u32, out: &mut Text) -> Result<(), NoMemory>
     requires { count ≤ max_frames }
     ensures { OnOk result (out.new.items ≡ out.old.items ++ closing_text verdict count) }
 {

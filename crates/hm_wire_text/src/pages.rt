@@ -9,6 +9,7 @@ ghost use Rattle.hm_wire.specs.Reading.{Gives};
 ghost use Rattle.hm_wire_text.specs.Worded as own;
 ghost use Rattle.hm_wire_text.specs.Worded.{value_worded, act_worded, entry_worded, many_worded, entries_worded, entry_head_words, feed_head_words};
 
+use hm_base::buffer::Text;
 use hm_base::memory::NoMemory;
 use hm_base::stamp::Stamp;
 use hm_base::text::{write_bytes, write_value_bytes};
@@ -39,7 +40,7 @@ pub(crate) fn feed_head_at(bytes: &[u8]) -> Result<(FeedFields, &[u8]), Fault>
 }
 
 /// Appends the words of a feed before its entries.
-pub(crate) fn push_feed_head(fields: &FeedFields, out: &mut Vec<u8>) -> Result<(), NoMemory>
+pub(crate) fn push_feed_head(fields: &FeedFields, out: &mut Text) -> Result<(), NoMemory>
     ensures ok { OnOk result (out.new.items ≡ out.old.items ++ spaced (feed_head_words fields.now)) }
     ensures err { OnErr result (IsPrefix out.old.items out.new.items) }
 {
@@ -79,7 +80,7 @@ fn entry_head_at(bytes: &[u8]) -> Result<(EntryHead, &[u8]), Fault>
 }
 
 /// Appends the words of an entry before its act.
-fn push_entry_head(head: &EntryHead, out: &mut Vec<u8>) -> Result<(), NoMemory>
+fn push_entry_head(head: &EntryHead, out: &mut Text) -> Result<(), NoMemory>
     ensures ok { OnOk result (out.new.items ≡ out.old.items ++ spaced (entry_head_words head.now)) }
     ensures err { OnErr result (IsPrefix out.old.items out.new.items) }
 {
@@ -90,7 +91,7 @@ fn push_entry_head(head: &EntryHead, out: &mut Vec<u8>) -> Result<(), NoMemory>
 }
 
 /// Appends the word of a value of these bytes.
-fn push_value(bytes: &[u8], out: &mut Vec<u8>) -> Result<(), NoMemory>
+fn push_value(bytes: &[u8], out: &mut Text) -> Result<(), NoMemory>
     requires { length bytes.now ≤ max_value_len }
     ensures ok { OnOk result (out.new.items ≡ out.old.items ++ spaced (value_text bytes.now ∷ [])) }
     ensures err { OnErr result (IsPrefix out.old.items out.new.items) }
@@ -100,7 +101,7 @@ fn push_value(bytes: &[u8], out: &mut Vec<u8>) -> Result<(), NoMemory>
 }
 
 /// Reads a value, and appends its word. Here and below, what is appended where a fault is found is a part of the words.
-fn value_words<'a>(bytes: &'a [u8], out: &mut Vec<u8>) -> Result<Result<&'a [u8], Fault>, NoMemory>
+fn value_words<'a>(bytes: &'a [u8], out: &mut Text) -> Result<Result<&'a [u8], Fault>, NoMemory>
     ensures words { IfOk result (λ r. Gives (λ rest. (out.new.items, rest.now)) r (value_worded out.old.items (reading.value_at bytes.now))) }
     ensures front { IsPrefix out.old.items out.new.items }
 {
@@ -115,7 +116,7 @@ fn value_words<'a>(bytes: &'a [u8], out: &mut Vec<u8>) -> Result<Result<&'a [u8]
 
 /// Reads what an entry does, and appends its word.
 #[tactic(auto, unfolding(hm_wire::specs::Reading::act_at))]
-fn act_words<'a>(bytes: &'a [u8], out: &mut Vec<u8>) -> Result<Result<&'a [u8], Fault>, NoMemory>
+fn act_words<'a>(bytes: &'a [u8], out: &mut Text) -> Result<Result<&'a [u8], Fault>, NoMemory>
     ensures words { IfOk result (λ r. Gives (λ rest. (out.new.items, rest.now)) r (act_worded out.old.items (reading.act_at bytes.now))) }
     ensures front { IsPrefix out.old.items out.new.items }
 {
@@ -132,7 +133,7 @@ fn act_words<'a>(bytes: &'a [u8], out: &mut Vec<u8>) -> Result<Result<&'a [u8], 
 }
 
 /// Reads an entry, and appends its words.
-fn entry_words<'a>(bytes: &'a [u8], out: &mut Vec<u8>) -> Result<Result<&'a [u8], Fault>, NoMemory>
+fn entry_words<'a>(bytes: &'a [u8], out: &mut Text) -> Result<Result<&'a [u8], Fault>, NoMemory>
     ensures words { IfOk result (λ r. Gives (λ rest. (out.new.items, rest.now)) r (entry_worded out.old.items (reading.entry_at bytes.now))) }
     ensures front { IsPrefix out.old.items out.new.items }
 {
@@ -149,7 +150,7 @@ fn entry_words<'a>(bytes: &'a [u8], out: &mut Vec<u8>) -> Result<Result<&'a [u8]
 fn many_words<'a>(
     count: u8,
     bytes: &'a [u8],
-    out: &mut Vec<u8>,
+    out: &mut Text,
 ) -> Result<Result<&'a [u8], Fault>, NoMemory>
     ensures words { IfOk result (λ r. Gives (λ rest. (out.new.items, rest.now)) r (many_worded out.old.items (reading.many_at count bytes.now))) }
     ensures front { IsPrefix out.old.items out.new.items }
@@ -167,7 +168,7 @@ fn many_words<'a>(
 /// Reads the number of entries and the entries, and appends their words.
 pub(crate) fn entries_words<'a>(
     bytes: &'a [u8],
-    out: &mut Vec<u8>,
+    out: &mut Text,
 ) -> Result<Result<&'a [u8], Fault>, NoMemory>
     ensures words { IfOk result (λ r. Gives (λ rest. (out.new.items, rest.now)) r (entries_worded out.old.items (reading.entries_at bytes.now))) }
     ensures front { IsPrefix out.old.items out.new.items }

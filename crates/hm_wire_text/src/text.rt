@@ -4,6 +4,7 @@ ghost use Rattle.hm_wire.specs.Reading.{Gives, packet_of};
 ghost use Rattle.hm_wire_text.specs.Worded.{told, Tells};
 
 use crate::words::body_words;
+use hm_base::buffer::Text;
 use hm_base::memory::NoMemory;
 use hm_packet::text::write_ends;
 use hm_wire::fault::{Fault, malformed};
@@ -13,7 +14,7 @@ use hm_wire::malformed::{Malformed, Reason};
 
 /// Appends the text of the packet that the bytes spell, or answers their first fault and leaves `out` as it was. No packet is made
 /// of them. After want of memory `out` begins with what it held.
-pub fn write_spelled(bytes: &[u8], out: &mut Vec<u8>) -> Result<Result<(), Malformed>, NoMemory>
+pub fn write_spelled(bytes: &[u8], out: &mut Text) -> Result<Result<(), Malformed>, NoMemory>
     ensures tells { IfOk result (λ r. Tells r bytes.now out.old.items out.new.items) }
     ensures place { IfOk result (λ r. IfErr r (λ m. m.at ≤ length bytes.now)) }
     ensures front { IsPrefix out.old.items out.new.items }
@@ -30,7 +31,7 @@ pub fn write_spelled(bytes: &[u8], out: &mut Vec<u8>) -> Result<Result<(), Malfo
 }
 
 /// Reads a packet, and appends its text. What is appended where a fault is found is a part of it.
-fn packet_words(bytes: &[u8], out: &mut Vec<u8>) -> Result<Result<(), Fault>, NoMemory>
+fn packet_words(bytes: &[u8], out: &mut Text) -> Result<Result<(), Fault>, NoMemory>
     ensures text { IfOk result (λ r. Gives (λ u. out.new.items) r (told out.old.items (packet_of bytes.now))) }
     ensures front { IsPrefix out.old.items out.new.items }
 {

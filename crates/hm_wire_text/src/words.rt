@@ -6,7 +6,8 @@ ghost use Rattle.hm_wire.specs.Reading.{Gives, as_body};
 ghost use Rattle.hm_wire_text.specs.Worded.{worded};
 
 use crate::pages::{entries_words, feed_head_at, push_feed_head};
-use hm_base::entries::Entries;
+use hm_base::buffer::Text;
+use hm_base::entries::PageRoom;
 use hm_base::memory::NoMemory;
 use hm_packet::body::Page;
 use hm_packet::words::{
@@ -40,7 +41,7 @@ macro_rules! words {
 pub(crate) fn body_words<'a>(
     code: u8,
     bytes: &'a [u8],
-    out: &mut Vec<u8>,
+    out: &mut Text,
 ) -> Result<Result<&'a [u8], Fault>, NoMemory>
     ensures words { IfOk result (λ r. Gives (λ rest. (out.new.items, rest.now)) r (worded out.old.items (reading.body_at code bytes.now))) }
     ensures front { IsPrefix out.old.items out.new.items }
@@ -69,7 +70,7 @@ pub(crate) fn body_words<'a>(
 }
 
 /// Reads a read, and appends its words.
-fn read_words<'a>(bytes: &'a [u8], out: &mut Vec<u8>) -> Result<Result<&'a [u8], Fault>, NoMemory>
+fn read_words<'a>(bytes: &'a [u8], out: &mut Text) -> Result<Result<&'a [u8], Fault>, NoMemory>
     ensures words { IfOk result (λ r. Gives (λ rest. (out.new.items, rest.now)) r (worded out.old.items (as_body (λ b. body.Read b) (reading.read_at bytes.now)))) }
     ensures front { IsPrefix out.old.items out.new.items }
 {
@@ -77,7 +78,7 @@ fn read_words<'a>(bytes: &'a [u8], out: &mut Vec<u8>) -> Result<Result<&'a [u8],
 }
 
 /// Reads a write, and appends its words.
-fn write_words<'a>(bytes: &'a [u8], out: &mut Vec<u8>) -> Result<Result<&'a [u8], Fault>, NoMemory>
+fn write_words<'a>(bytes: &'a [u8], out: &mut Text) -> Result<Result<&'a [u8], Fault>, NoMemory>
     ensures words { IfOk result (λ r. Gives (λ rest. (out.new.items, rest.now)) r (worded out.old.items (as_body (λ b. body.Write b) (reading.write_at bytes.now)))) }
     ensures front { IsPrefix out.old.items out.new.items }
 {
@@ -85,7 +86,7 @@ fn write_words<'a>(bytes: &'a [u8], out: &mut Vec<u8>) -> Result<Result<&'a [u8]
 }
 
 /// Reads a numbered write, and appends its words.
-fn put_words<'a>(bytes: &'a [u8], out: &mut Vec<u8>) -> Result<Result<&'a [u8], Fault>, NoMemory>
+fn put_words<'a>(bytes: &'a [u8], out: &mut Text) -> Result<Result<&'a [u8], Fault>, NoMemory>
     ensures words { IfOk result (λ r. Gives (λ rest. (out.new.items, rest.now)) r (worded out.old.items (as_body (λ b. body.Put b) (reading.put_at bytes.now)))) }
     ensures front { IsPrefix out.old.items out.new.items }
 {
@@ -95,7 +96,7 @@ fn put_words<'a>(bytes: &'a [u8], out: &mut Vec<u8>) -> Result<Result<&'a [u8], 
 /// Reads a stamped read, and appends its words.
 fn fast_read_words<'a>(
     bytes: &'a [u8],
-    out: &mut Vec<u8>,
+    out: &mut Text,
 ) -> Result<Result<&'a [u8], Fault>, NoMemory>
     ensures words { IfOk result (λ r. Gives (λ rest. (out.new.items, rest.now)) r (worded out.old.items (as_body (λ b. body.FastRead b) (reading.fast_read_at bytes.now)))) }
     ensures front { IsPrefix out.old.items out.new.items }
@@ -106,7 +107,7 @@ fn fast_read_words<'a>(
 /// Reads a read that goes the normal way, and appends its words.
 fn normal_read_words<'a>(
     bytes: &'a [u8],
-    out: &mut Vec<u8>,
+    out: &mut Text,
 ) -> Result<Result<&'a [u8], Fault>, NoMemory>
     ensures words { IfOk result (λ r. Gives (λ rest. (out.new.items, rest.now)) r (worded out.old.items (as_body (λ b. body.NormalRead b) (reading.normal_read_at bytes.now)))) }
     ensures front { IsPrefix out.old.items out.new.items }
@@ -119,7 +120,7 @@ fn normal_read_words<'a>(
 }
 
 /// Reads a completion, and appends its words.
-fn done_words<'a>(bytes: &'a [u8], out: &mut Vec<u8>) -> Result<Result<&'a [u8], Fault>, NoMemory>
+fn done_words<'a>(bytes: &'a [u8], out: &mut Text) -> Result<Result<&'a [u8], Fault>, NoMemory>
     ensures words { IfOk result (λ r. Gives (λ rest. (out.new.items, rest.now)) r (worded out.old.items (as_body (λ b. body.Done b) (reading.done_at bytes.now)))) }
     ensures front { IsPrefix out.old.items out.new.items }
 {
@@ -127,7 +128,7 @@ fn done_words<'a>(bytes: &'a [u8], out: &mut Vec<u8>) -> Result<Result<&'a [u8],
 }
 
 /// Reads an answer, and appends its words.
-fn reply_words<'a>(bytes: &'a [u8], out: &mut Vec<u8>) -> Result<Result<&'a [u8], Fault>, NoMemory>
+fn reply_words<'a>(bytes: &'a [u8], out: &mut Text) -> Result<Result<&'a [u8], Fault>, NoMemory>
     ensures words { IfOk result (λ r. Gives (λ rest. (out.new.items, rest.now)) r (worded out.old.items (as_body (λ b. body.Reply b) (reading.reply_at bytes.now)))) }
     ensures front { IsPrefix out.old.items out.new.items }
 {
@@ -135,7 +136,7 @@ fn reply_words<'a>(bytes: &'a [u8], out: &mut Vec<u8>) -> Result<Result<&'a [u8]
 }
 
 /// Reads a page from a log, and appends its words.
-fn feed_words<'a>(bytes: &'a [u8], out: &mut Vec<u8>) -> Result<Result<&'a [u8], Fault>, NoMemory>
+fn feed_words<'a>(bytes: &'a [u8], out: &mut Text) -> Result<Result<&'a [u8], Fault>, NoMemory>
     ensures words { IfOk result (λ r. Gives (λ rest. (out.new.items, rest.now)) r (worded out.old.items (as_body (λ b. body.Feed b) (reading.feed_at bytes.now)))) }
     ensures front { IsPrefix out.old.items out.new.items }
 {
@@ -151,7 +152,7 @@ fn feed_words<'a>(bytes: &'a [u8], out: &mut Vec<u8>) -> Result<Result<&'a [u8],
 /// Reads how long a list is held, and appends its words.
 fn feed_ack_words<'a>(
     bytes: &'a [u8],
-    out: &mut Vec<u8>,
+    out: &mut Text,
 ) -> Result<Result<&'a [u8], Fault>, NoMemory>
     ensures words { IfOk result (λ r. Gives (λ rest. (out.new.items, rest.now)) r (worded out.old.items (as_body (λ b. body.FeedAck b) (reading.feed_ack_at bytes.now)))) }
     ensures front { IsPrefix out.old.items out.new.items }
@@ -160,7 +161,7 @@ fn feed_ack_words<'a>(
 }
 
 /// Reads a call for a completion, and appends its words.
-fn ask_words<'a>(bytes: &'a [u8], out: &mut Vec<u8>) -> Result<Result<&'a [u8], Fault>, NoMemory>
+fn ask_words<'a>(bytes: &'a [u8], out: &mut Text) -> Result<Result<&'a [u8], Fault>, NoMemory>
     ensures words { IfOk result (λ r. Gives (λ rest. (out.new.items, rest.now)) r (worded out.old.items (as_body (λ b. body.Ask b) (reading.ask_at bytes.now)))) }
     ensures front { IsPrefix out.old.items out.new.items }
 {
@@ -168,7 +169,7 @@ fn ask_words<'a>(bytes: &'a [u8], out: &mut Vec<u8>) -> Result<Result<&'a [u8], 
 }
 
 /// Reads how much is committed, and appends its words.
-fn known_words<'a>(bytes: &'a [u8], out: &mut Vec<u8>) -> Result<Result<&'a [u8], Fault>, NoMemory>
+fn known_words<'a>(bytes: &'a [u8], out: &mut Text) -> Result<Result<&'a [u8], Fault>, NoMemory>
     ensures words { IfOk result (λ r. Gives (λ rest. (out.new.items, rest.now)) r (worded out.old.items (as_body (λ b. body.Known b) (reading.known_at bytes.now)))) }
     ensures front { IsPrefix out.old.items out.new.items }
 {
@@ -178,7 +179,7 @@ fn known_words<'a>(bytes: &'a [u8], out: &mut Vec<u8>) -> Result<Result<&'a [u8]
 /// Reads a view that is entered, and appends its words.
 fn start_view_change_words<'a>(
     bytes: &'a [u8],
-    out: &mut Vec<u8>,
+    out: &mut Text,
 ) -> Result<Result<&'a [u8], Fault>, NoMemory>
     ensures words { IfOk result (λ r. Gives (λ rest. (out.new.items, rest.now)) r (worded out.old.items (as_body (λ b. body.StartViewChange b) (reading.start_view_change_at bytes.now)))) }
     ensures front { IsPrefix out.old.items out.new.items }
@@ -191,7 +192,7 @@ fn start_view_change_words<'a>(
 }
 
 /// Reads a vote, and appends its words.
-fn vote_words<'a>(bytes: &'a [u8], out: &mut Vec<u8>) -> Result<Result<&'a [u8], Fault>, NoMemory>
+fn vote_words<'a>(bytes: &'a [u8], out: &mut Text) -> Result<Result<&'a [u8], Fault>, NoMemory>
     ensures words { IfOk result (λ r. Gives (λ rest. (out.new.items, rest.now)) r (worded out.old.items (as_body (λ b. body.Vote b) (reading.vote_at bytes.now)))) }
     ensures front { IsPrefix out.old.items out.new.items }
 {
@@ -199,7 +200,7 @@ fn vote_words<'a>(bytes: &'a [u8], out: &mut Vec<u8>) -> Result<Result<&'a [u8],
 }
 
 /// Reads a call for a log, and appends its words.
-fn pull_words<'a>(bytes: &'a [u8], out: &mut Vec<u8>) -> Result<Result<&'a [u8], Fault>, NoMemory>
+fn pull_words<'a>(bytes: &'a [u8], out: &mut Text) -> Result<Result<&'a [u8], Fault>, NoMemory>
     ensures words { IfOk result (λ r. Gives (λ rest. (out.new.items, rest.now)) r (worded out.old.items (as_body (λ b. body.Pull b) (reading.pull_at bytes.now)))) }
     ensures front { IsPrefix out.old.items out.new.items }
 {
@@ -207,19 +208,19 @@ fn pull_words<'a>(bytes: &'a [u8], out: &mut Vec<u8>) -> Result<Result<&'a [u8],
 }
 
 /// Reads a page of the chosen log, and appends its words.
-fn page_words<'a>(bytes: &'a [u8], out: &mut Vec<u8>) -> Result<Result<&'a [u8], Fault>, NoMemory>
+fn page_words<'a>(bytes: &'a [u8], out: &mut Text) -> Result<Result<&'a [u8], Fault>, NoMemory>
     ensures words { IfOk result (λ r. Gives (λ rest. (out.new.items, rest.now)) r (worded out.old.items (as_body (λ b. body.Page b) (reading.page_at bytes.now)))) }
     ensures front { IsPrefix out.old.items out.new.items }
 {
-    let mut entries = Entries::new();
+    let mut room = PageRoom::new();
     words!(
-        page_at(bytes, &mut entries),
+        page_at(bytes, &mut room),
         fields,
         write_page(
             &Page {
                 view: fields.view,
                 first: fields.first,
-                entries
+                entries: room.entries(),
             },
             out
         )
@@ -227,7 +228,7 @@ fn page_words<'a>(bytes: &'a [u8], out: &mut Vec<u8>) -> Result<Result<&'a [u8],
 }
 
 /// Reads the members of an epoch, and appends its words.
-fn config_words<'a>(bytes: &'a [u8], out: &mut Vec<u8>) -> Result<Result<&'a [u8], Fault>, NoMemory>
+fn config_words<'a>(bytes: &'a [u8], out: &mut Text) -> Result<Result<&'a [u8], Fault>, NoMemory>
     ensures words { IfOk result (λ r. Gives (λ rest. (out.new.items, rest.now)) r (worded out.old.items (as_body (λ b. body.Config b) (reading.config_at bytes.now)))) }
     ensures front { IsPrefix out.old.items out.new.items }
 {
@@ -235,7 +236,7 @@ fn config_words<'a>(bytes: &'a [u8], out: &mut Vec<u8>) -> Result<Result<&'a [u8
 }
 
 /// Reads a route, and appends its words.
-fn route_words<'a>(bytes: &'a [u8], out: &mut Vec<u8>) -> Result<Result<&'a [u8], Fault>, NoMemory>
+fn route_words<'a>(bytes: &'a [u8], out: &mut Text) -> Result<Result<&'a [u8], Fault>, NoMemory>
     ensures words { IfOk result (λ r. Gives (λ rest. (out.new.items, rest.now)) r (worded out.old.items (as_body (λ b. body.Route b) (reading.route_at bytes.now)))) }
     ensures front { IsPrefix out.old.items out.new.items }
 {
@@ -243,7 +244,7 @@ fn route_words<'a>(bytes: &'a [u8], out: &mut Vec<u8>) -> Result<Result<&'a [u8]
 }
 
 /// Reads a switch to be refused, and appends its words.
-fn refuse_words<'a>(bytes: &'a [u8], out: &mut Vec<u8>) -> Result<Result<&'a [u8], Fault>, NoMemory>
+fn refuse_words<'a>(bytes: &'a [u8], out: &mut Text) -> Result<Result<&'a [u8], Fault>, NoMemory>
     ensures words { IfOk result (λ r. Gives (λ rest. (out.new.items, rest.now)) r (worded out.old.items (as_body (λ b. body.Refuse b) (reading.refuse_at bytes.now)))) }
     ensures front { IsPrefix out.old.items out.new.items }
 {
@@ -253,7 +254,7 @@ fn refuse_words<'a>(bytes: &'a [u8], out: &mut Vec<u8>) -> Result<Result<&'a [u8
 /// Reads a refused switch, and appends its words.
 fn refused_words<'a>(
     bytes: &'a [u8],
-    out: &mut Vec<u8>,
+    out: &mut Text,
 ) -> Result<Result<&'a [u8], Fault>, NoMemory>
     ensures words { IfOk result (λ r. Gives (λ rest. (out.new.items, rest.now)) r (worded out.old.items (as_body (λ b. body.Refused b) (reading.refused_at bytes.now)))) }
     ensures front { IsPrefix out.old.items out.new.items }

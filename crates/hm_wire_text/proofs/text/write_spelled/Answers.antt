@@ -11,7 +11,7 @@ pub returns-in-Err-clause-tells : goal.returns-in-Err-clause-tells
 returns-in-Err-clause-tells c =
     let len : c.len-len.result ≡ length c.args.out.now.items = grind (arith, common_steps) in (
       (tells_fault c.reading_is_exact.ensures _ c.args.out.now.items _ (λ i. omega (arith, c.type_inv.bytes i)) (rw c.in-Err.is at c.in_ok-packet_words.ensures.text)).0 ∙ ap Some (sym c.malformed.ensures),
-      c.truncate.ensures.items ∙ ap (λ (n : ℕ). take n c.packet_words.new.out.items) len ∙ cut_off _ _ c.in_ok-packet_words.ensures.front,
+      c.truncate.ensures ∙ ap (λ (n : ℕ). take n c.packet_words.new.out.items) len ∙ cut_off _ _ c.in_ok-packet_words.ensures.front,
     )
 
 pub returns-in-Err-clause-place : goal.returns-in-Err-clause-place
