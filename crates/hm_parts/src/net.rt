@@ -1,11 +1,13 @@
-ghost use Rattle.std.specs.Prelude.{◌≡◌, ◌<◌, ◌≤◌, ◌+◌, ◌++◌, ◌∷◌, [], length, slice_get, OnOk, OnErr, vec_len, vec_capacity};
-ghost use Rattle.std.specs.Option.{option_copied};
-ghost use Rattle.hm_packet.specs.Messages.{Message};
+ghost use Rattle.std.specs.Prelude.{◌≡◌, ◌<◌, ◌≤◌, ◌+◌, ◌++◌, ◌∷◌, [], length, slice_get, Some, None, All, if◌then◌else◌, OnOk, OnErr};
+ghost use Rattle.std.specs.Option.{option_copied, option_map};
 ghost use Rattle.hm_packet.specs.Steps.{max_outs};
 ghost use Rattle.hm_schedule.specs.Limits.{max_packets};
+ghost use Rattle.hm_wire.specs.Packets.{spelling, HasSpelling};
 
+use hm_base::entries::PageRoom;
 use hm_base::memory::NoMemory;
-use hm_packet::outs::{MAX_OUTS, Outs};
+use hm_codec::outs::Outs;
+use hm_codec::spellings::Spellings;
 use hm_packet::packet::Packet;
 use std::alloc::Global;
 use std::marker::Model;
@@ -14,9 +16,8 @@ use std::marker::Model;
 /// packets there may be before room is made again.
 #[derive(Drop)]
 pub struct Net {
-    packets: Vec<Packet>,
+    packets: Spellings,
     cursor: u32,
-    limit: u32,
 }
 
 impl Model for Net {
@@ -37,29 +38,41 @@ impl Net {
         ensures { result ≡ record { packets = []; cursor = 0; limit = 0 } }
     {
         Net {
-            packets: Vec::new(alloc),
+            packets: Spellings::new(alloc),
             cursor: 0,
-            limit: 0,
         }
     }
 
     /// How many packets were sent.
+    #[inline(always)]
     pub fn len(&self) -> u32
         ensures count { result ≡ length self.now.packets }
         ensures few { result ≤ max_packets }
         ensures within { result ≤ self.now.limit }
     {
-        self.packets.len() as u32
+        self.packets.len()
     }
 
-    /// The packet at a place, counted from 0. None exactly from `len()` on.
-    pub fn at(&self, place: u32) -> Option<&Packet>
-        ensures { option_copied result ≡ slice_get self.now.packets place }
+    /// The spelling of the packet at a place, counted from 0. None exactly from `len()` on.
+    #[inline(always)]
+    pub fn at(&self, place: u32) -> Option<&[u8]>
+        ensures spelled { option_copied result ≡ option_map spelling (slice_get self.now.packets place) }
+        ensures lawful { All HasSpelling self.now.packets }
     {
-        self.packets.get(place as usize)
+        self.packets.get(place)
+    }
+
+    /// Reads the packet at a place, counted from 0, into its place, and its page, if it has one, into the room. False exactly from
+    /// `len()` on.
+    #[inline(always)]
+    pub fn read<'a>(&self, place: u32, room: &'a mut PageRoom, packet: &mut Packet<'a>) -> bool
+        ensures { (if result then Some packet.new else None) ≡ slice_get self.now.packets place }
+    {
+        self.packets.read(place, room, packet)
     }
 
     /// How many packets the cursor has passed.
+    #[inline(always)]
     pub fn cursor(&self) -> u32
         ensures { result ≡ self.now.cursor }
     {
@@ -67,6 +80,7 @@ impl Net {
     }
 
     /// The cursor passes over a packet.
+    #[inline(always)]
     pub fn pass(&mut self)
         requires { self.old.cursor < length self.old.packets }
         ensures { self.new ≡ record self.old { cursor = self.old.cursor + 1 } }
@@ -75,23 +89,22 @@ impl Net {
     }
 
     /// Makes room for the packets of one step.
+    #[inline(always)]
     pub fn reserve(&mut self) -> Result<(), NoMemory>
         requires { self.old.limit + max_outs ≤ max_packets }
         ensures within { length self.old.packets ≤ self.old.limit }
         ensures ok { OnOk result (self.new ≡ record self.old { limit = length self.old.packets + max_outs }) }
         ensures err { OnErr result (self.new ≡ self.old) }
     {
-        self.packets.reserve(MAX_OUTS)?;
-        self.limit = self.packets.len() as u32 + MAX_OUTS as u32;
-        Ok(())
+        self.packets.reserve()
     }
 
     /// Puts a packet behind the others.
-    pub fn post(&mut self, packet: Packet)
+    pub fn post(&mut self, packet: &Packet)
         requires { length self.old.packets < self.old.limit }
-        ensures { self.new ≡ record self.old { packets = self.old.packets ++ packet ∷ [] } }
+        ensures { self.new ≡ record self.old { packets = self.old.packets ++ packet.now ∷ [] } }
     {
-        put(&mut self.packets, packet);
+        self.packets.push(packet);
     }
 
     /// Puts packets behind the others, in order.
@@ -99,20 +112,6 @@ impl Net {
         requires { length self.old.packets + length outs.now ≤ self.old.limit }
         ensures { self.new ≡ record self.old { packets = self.old.packets ++ outs.now } }
     {
-        for i in 0..outs.len() {
-            if let Some(packet) = outs.get(i) {
-                self.post(packet.copy());
-            }
-        }
+        self.packets.push_all(outs);
     }
-}
-
-/// Puts a packet into room that is there.
-fn put(packets: &mut Vec<Packet>, packet: Packet)
-    requires { vec_len packets.old < vec_capacity packets.old }
-    ensures items { packets.new.items ≡ packets.old.items ++ packet ∷ [] }
-    ensures room { vec_capacity packets.old ≤ vec_capacity packets.new }
-{
-    let pushed: Result<_, _> = packets.push(packet);
-    pushed.unwrap();
 }

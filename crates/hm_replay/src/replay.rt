@@ -20,6 +20,7 @@ use crate::law::schedules_run_lawfully;
 use crate::run_text::{write_bad, write_order};
 use crate::status::{Status, ended, status_of};
 use crate::words::is_word;
+use hm_base::buffer::Text;
 use hm_outside::device::{NotPut, Sink, Source, put_all, put_closing};
 use hm_outside::law::calls_add_up;
 use hm_schedule::law::{bytes_break_off_once, schedules_grow_by_lines};
@@ -106,7 +107,7 @@ fn replay<S: Source, K: Sink>(alloc: Global, source: &mut S, sink: &mut K) -> St
     let Ok(mut reader) = LineReader::open(alloc) else {
         return Status::NoMemory;
     };
-    let mut text = Vec::new(alloc);
+    let mut text = Text::new(alloc);
     let (opening, mut next) = match read_opening(&mut reader, source) {
         Ok(opened) => opened,
         Err(_) => return Status::ReadFault,
@@ -121,7 +122,7 @@ fn replay<S: Source, K: Sink>(alloc: Global, source: &mut S, sink: &mut K) -> St
                     Ok(()) => {}
                     Err(_) => return Status::NoMemory,
                 }
-                match put_all(sink, &text) {
+                match put_all(sink, text.as_slice()) {
                     Ok(()) => {}
                     Err(_) => return Status::WriteFault,
                 }
@@ -156,7 +157,7 @@ fn finish<K: Sink>(
     };
     text.clear();
     match write_order(&ops, text) {
-        Ok(()) => put_closing(sink, text),
+        Ok(()) => put_closing(sink, text.as_slice()),
         Err(_) => Err(NotPut::NoMemory),
     }
 }
@@ -172,7 +173,7 @@ fn refuse<K: Sink>(
 {
     text.clear();
     match write_bad(line, reason, text) {
-        Ok(()) => put_closing(sink, text),
+        Ok(()) => put_closing(sink, text.as_slice()),
         Err(_) => Err(NotPut::NoMemory),
     }
 }

@@ -138,14 +138,16 @@ pub fn write_marks(marks: &[Mark], out: &mut Text) -> Result<(), NoMemory>
     Ok(())
 }
 
-/// Appends a packet's line: its number, counted from 1, and its text.
-pub fn write_sent(number: u32, packet: &Packet, out: &mut Text) -> Result<(), NoMemory>
-    ensures { OnOk result (out.new.items ≡ out.old.items ++ packet_lines number (packet.now ∷ [])) }
+/// Appends the line of the packet that the bytes spell: its number, counted from 1, and its text.
+pub fn write_sent(number: u32, bytes: &[u8], out: &mut Text) -> Result<(), NoMemory>
+    ensures { (packet : Message) → HasSpelling packet → spelling packet ≡ bytes.now → OnOk result (out.new.items ≡ out.old.items ++ packet_lines number (packet ∷ [])) }
 {
+    spelling_has_no_fault();
+    spelling_tells_the_packet();
     write_bytes(b"packet ", out)?;
     write_number(u64::from(number), out)?;
     write_bytes(b" ", out)?;
-    write_packet(packet, out)?;
+    let _told = write_spelled(bytes, out)?;
     write_bytes(b"\n", out)
 }
 

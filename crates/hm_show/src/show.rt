@@ -66,7 +66,7 @@ fn show_frames<S: Source, K: Sink>(alloc: Global, source: &mut S, sink: &mut K) 
         return Shown::NoMemory;
     };
     let mut unframer = Unframer::new(alloc);
-    let mut text = Vec::new(alloc);
+    let mut text = Text::new(alloc);
     let mut count = 0;
     loop {
         text.clear();
@@ -78,7 +78,7 @@ fn show_frames<S: Source, K: Sink>(alloc: Global, source: &mut S, sink: &mut K) 
             },
             Err(_) => return Shown::NoMemory,
         }
-        match put_all(sink, &text) {
+        match put_all(sink, text.as_slice()) {
             Ok(()) => {}
             Err(_) => return Shown::WriteFault,
         }
@@ -132,7 +132,7 @@ fn close<K: Sink>(
     ensures { Puts result (text.old.items ++ closing_text verdict count) (K.held sink.old) (K.held sink.new) (K.faults sink.old) (K.faults sink.new) }
 {
     match write_closing(verdict, count, text) {
-        Ok(()) => put_closing(sink, text),
+        Ok(()) => put_closing(sink, text.as_slice()),
         Err(_) => Err(NotPut::NoMemory),
     }
 }

@@ -1,7 +1,7 @@
 -- The rules' steps of replicas and of the service, as the code is divided.
 use Rattle.std.specs.Prelude.{ℕ, ◌++◌, List, slice_get, is_some, not, if◌then◌else◌, Option, Some, None}
 use Rattle.hm_base.specs.declared.entry.Entry.{Entry}
-use Rattle.hm_packet.specs.declared.acted.Acted.{Acted}
+use Rattle.hm_codec.specs.declared.acted.Acted.{Acted}
 use Rattle.hm_packet.specs.declared.acted.Did.{Did}
 use Rattle.hm_packet.specs.declared.acted.Did.TheVariants as did
 use Rattle.hm_packet.specs.declared.outcome.Outcome.TheVariants as outcome

@@ -6,9 +6,11 @@ ghost use Rattle.hm_rules.specs.Happens as rules;
 ghost use Rattle.hm_rules.specs.Service as service;
 
 use crate::state::State;
+use hm_base::entries::PageRoom;
 use hm_base::node::Node;
 use hm_base::why::Why;
-use hm_packet::acted::{Acted, Did};
+use hm_codec::acted::Acted;
+use hm_packet::acted::Did;
 use hm_packet::outcome::{Bar, Outcome};
 use hm_packet::packet::Packet;
 use hm_packet::turn::Turn;
@@ -17,32 +19,33 @@ impl State {
     ghost use Rattle.hm_world.specs.StateFields.{world_of, delivered, passed_on, arrives, switched, IsBegun, Quietly, Ends};
 
     /// The packet of this number arrives, whether or not it did before.
-    pub(crate) fn deliver_again(&mut self, number: u32, acted: &mut Acted) -> Outcome
+    pub(crate) fn deliver_again(
+        &mut self,
+        number: u32,
+        acted: &mut Acted,
+        room: &mut PageRoom,
+    ) -> Outcome
         requires { IsBegun self.old }
         ensures { Ends self.old self.new result (delivered self.old (rule.sent_at (world_of self.old) number)) }
     {
-        match self.sent(number) {
-            None => Outcome::NotAllowed(Bar::NoPacket),
-            Some(packet) => {
-                let packet = packet.copy();
-                self.deliver(&packet, acted)
-            }
+        let mut packet = Packet::blank();
+        if number == 0 || !self.net.read(number - 1, room, &mut packet) {
+            return Outcome::NotAllowed(Bar::NoPacket);
         }
+        self.deliver(&packet, acted)
     }
 
     /// The packet at the cursor arrives, if there is one.
-    pub(crate) fn next(&mut self, acted: &mut Acted) -> Outcome
+    pub(crate) fn next(&mut self, acted: &mut Acted, room: &mut PageRoom) -> Outcome
         requires { IsBegun self.old }
         ensures { Ends self.old self.new result (passed_on self.old (slice_get self.old.net.packets self.old.net.cursor)) }
     {
-        match self.net.at(self.net.cursor()) {
-            None => Outcome::NotAllowed(Bar::NoPacket),
-            Some(packet) => {
-                let packet = packet.copy();
-                self.net.pass();
-                self.deliver(&packet, acted)
-            }
+        let mut packet = Packet::blank();
+        if !self.net.read(self.net.cursor(), room, &mut packet) {
+            return Outcome::NotAllowed(Bar::NoPacket);
         }
+        self.net.pass();
+        self.deliver(&packet, acted)
     }
 
     /// The cursor passes over a packet, which doesn't arrive.
@@ -50,13 +53,11 @@ impl State {
         requires { IsBegun self.old }
         ensures { Quietly self.old self.new result (rules.drops (world_of self.old) (slice_get self.old.net.packets self.old.net.cursor)) }
     {
-        match self.net.at(self.net.cursor()) {
-            None => Outcome::NotAllowed(Bar::NoPacket),
-            Some(_) => {
-                self.net.pass();
-                self.none_sent()
-            }
+        if self.net.cursor() >= self.net.len() {
+            return Outcome::NotAllowed(Bar::NoPacket);
         }
+        self.net.pass();
+        self.none_sent()
     }
 
     /// A packet that was sent arrives at the node that it is addressed to.
@@ -84,7 +85,7 @@ impl State {
         let first = self.net.len() + 1;
         match self.switches.step(number, packet) {
             Turn::Sent(sent) => {
-                self.net.post(sent);
+                self.net.post(&sent);
                 Outcome::Ok { first, count: 1 }
             }
             Turn::Noted => Outcome::Ok { first, count: 0 },

@@ -40,7 +40,7 @@ impl State {
         };
         self.clients.keep(number, client);
         self.observer.mark(Mark::Invoke { op, want });
-        self.net.post(request_to(op, &want, switch));
+        self.net.post(&request_to(op, &want, switch));
         Outcome::Ok { first, count: 1 }
     }
 
@@ -62,7 +62,7 @@ impl State {
                     client: number,
                     request: client.request,
                 };
-                self.net.post(request_to(op, &want, switch));
+                self.net.post(&request_to(op, &want, switch));
                 Outcome::Ok { first, count: 1 }
             }
         }

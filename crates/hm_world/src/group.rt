@@ -10,7 +10,7 @@ ghost use Rattle.hm_world.specs.GroupFields.{kind_in, replicas_in};
 use hm_base::memory::NoMemory;
 use hm_base::node::GroupKind;
 use hm_chain::chain::Chain;
-use hm_packet::acted::Acted;
+use hm_codec::acted::Acted;
 use hm_packet::packet::Packet;
 use hm_step_laws::steps::every_step_keeps;
 use hm_store::ledger::Ledger;

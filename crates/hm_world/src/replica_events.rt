@@ -11,7 +11,8 @@ use crate::fault::bar_of;
 use crate::state::State;
 use hm_base::node::Node;
 use hm_base::why::Why;
-use hm_packet::acted::{Acted, Did};
+use hm_codec::acted::Acted;
+use hm_packet::acted::Did;
 use hm_packet::outcome::{Bar, Outcome};
 use hm_packet::packet::Packet;
 use hm_replica::group::is_member;
@@ -75,7 +76,7 @@ impl State {
     }
 
     /// A stopped member is removed from the group, and the new epoch is told.
-    pub(crate) fn remove(&mut self, number: u8) -> Outcome
+    pub(crate) fn remove(&mut self, number: u8, acted: &mut Acted) -> Outcome
         requires { IsBegun self.old }
         ensures { Quietly self.old self.new result (rules.removal (world_of self.old) number) }
     {
@@ -84,12 +85,12 @@ impl State {
             return Outcome::NotAllowed(Bar::Live);
         }
         let first = self.net.len() + 1;
-        match self.service.remove(number) {
-            Ok(outs) => {
-                self.net.post_all(&outs);
+        match self.service.remove(number, &mut acted.outs) {
+            Ok(()) => {
+                self.net.post_all(&acted.outs);
                 Outcome::Ok {
                     first,
-                    count: outs.len(),
+                    count: acted.outs.len(),
                 }
             }
             Err(fault) => Outcome::NotAllowed(bar_of(fault)),

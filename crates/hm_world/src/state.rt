@@ -1,4 +1,6 @@
-ghost use Rattle.std.specs.Prelude.{option_copied, ◌≡◌, ◌<◌, ◌≤◌, ◌+◌, length, Some, None, IfOk, OnOk, OnErr, IfErr, ◌⊎◌};
+ghost use Rattle.std.specs.Option.{option_map};
+ghost use Rattle.hm_wire.specs.Packets.{spelling, HasSpelling};
+ghost use Rattle.std.specs.Prelude.{All, option_copied, ◌≡◌, ◌<◌, ◌≤◌, ◌+◌, length, Some, None, IfOk, OnOk, OnErr, IfErr, ◌⊎◌};
 ghost use Rattle.hm_rules.specs.Runs.{slotted};
 ghost use Rattle.hm_refusal_laws.specs.Slotting.{slot_happens, slot_step};
 ghost use Rattle.hm_rules.specs.World as rule;
@@ -7,12 +9,12 @@ ghost use Rattle.hm_schedule.specs.Limits.{max_events, max_packets};
 use crate::fault::{WorldFault, fault_of};
 use crate::group::Group;
 use crate::switches::Switches;
+use hm_base::entries::PageRoom;
 use hm_base::memory::NoMemory;
+use hm_codec::acted::Acted;
 use hm_order::history::History;
 use hm_order::mark::Want;
-use hm_packet::acted::Acted;
 use hm_packet::outcome::Outcome;
-use hm_packet::packet::Packet;
 use hm_parts::clients::Clients;
 use hm_parts::net::Net;
 use hm_parts::observer::Observer;
@@ -68,7 +70,12 @@ impl State {
     }
 
     /// One event, with its bars in order.
-    pub(crate) fn event(&mut self, event: &Event, acted: &mut Acted) -> Result<Outcome, NoMemory>
+    pub(crate) fn event(
+        &mut self,
+        event: &Event,
+        acted: &mut Acted,
+        room: &mut PageRoom,
+    ) -> Result<Outcome, NoMemory>
         requires few { self.old.events < max_events }
         requires kept { IsKept self.old }
         requires ready { IsReady (world_of self.old) }
@@ -80,7 +87,7 @@ impl State {
         ensures err_events { OnErr result (self.new.events ≡ self.old.events) }
     {
         self.begin()?;
-        Ok(self.take(event, acted))
+        Ok(self.take(event, acted, room))
     }
 
     /// Takes all the room that one event may need, and counts the event.
@@ -103,7 +110,7 @@ impl State {
     }
 
     /// What an event does once there is room for it.
-    fn take(&mut self, event: &Event, acted: &mut Acted) -> Outcome
+    fn take(&mut self, event: &Event, acted: &mut Acted, room: &mut PageRoom) -> Outcome
         requires { IsBegun self.old }
         ensures { Ends self.old self.new result (slot_happens (slotted_of self.old) (event_of event.now)) }
     {
@@ -126,12 +133,12 @@ impl State {
                 switch,
             } => self.invoke(*client, Want::Read { object: *object }, *switch),
             Event::Resend { client, switch } => self.resend(*client, *switch),
-            Event::Deliver { packet } => self.deliver_again(*packet, acted),
-            Event::Next => self.next(acted),
+            Event::Deliver { packet } => self.deliver_again(*packet, acted, room),
+            Event::Next => self.next(acted, room),
             Event::Drop => self.lose_next(),
             Event::Tick { replica } => self.tick(*replica, acted),
             Event::Stop { replica } => self.stop(*replica),
-            Event::Remove { replica } => self.remove(*replica),
+            Event::Remove { replica } => self.remove(*replica, acted),
             Event::Timeout { replica } => self.timeout(*replica, acted),
         }
     }
@@ -151,10 +158,12 @@ impl State {
         self.net.len()
     }
 
-    /// The packet of this number, from 1. None exactly where no packet of this number was sent.
-    pub(crate) fn sent(&self, i: u32) -> Option<&Packet>
-        ensures { option_copied result ≡ rule.sent_at (world_of self.now) i }
+    /// The spelling of the packet of this number, from 1. None exactly where no packet of this number was sent.
+    pub(crate) fn sent(&self, i: u32) -> Option<&[u8]>
+        ensures spelled { option_copied result ≡ option_map spelling (rule.sent_at (world_of self.now) i) }
+        ensures lawful { All HasSpelling self.now.net.packets }
     {
+        let _any = self.net.at(0);
         if i == 0 {
             return None;
         }

@@ -1,4 +1,6 @@
-ghost use Rattle.std.specs.Prelude.{option_copied, ◌≡◌, ◌<◌, ◌≤◌, ◌+◌, ◌⊎◌, ℕ, length, Some, None, IfOk, IfErr, OnOk, OnErr};
+ghost use Rattle.std.specs.Option.{option_map};
+ghost use Rattle.hm_wire.specs.Packets.{spelling, HasSpelling};
+ghost use Rattle.std.specs.Prelude.{All, option_copied, ◌≡◌, ◌<◌, ◌≤◌, ◌+◌, ◌⊎◌, ℕ, length, Some, None, IfOk, IfErr, OnOk, OnErr};
 ghost use Rattle.hm_rules.specs.World as rule;
 ghost use Rattle.hm_rules.specs.Runs.{slotted};
 ghost use Rattle.hm_refusal_laws.specs.Slotting.{slot_happens, slot_step};
@@ -6,12 +8,12 @@ ghost use Rattle.hm_schedule.specs.Limits.{max_events, max_packets};
 
 use crate::fault::WorldFault;
 use crate::state::State;
+use hm_base::entries::PageRoom;
 use hm_base::memory::NoMemory;
+use hm_codec::acted::Acted;
 use hm_group_laws::groups::{group_stays_sound, sound_group_is_ready};
 use hm_order::history::History;
-use hm_packet::acted::Acted;
 use hm_packet::outcome::Outcome;
-use hm_packet::packet::Packet;
 use hm_replica::acts::blank;
 use hm_schedule::event::{Event, Setup};
 use std::alloc::Global;
@@ -23,6 +25,7 @@ use std::marker::Model;
 pub struct World {
     state: State,
     acted: Acted,
+    room: PageRoom,
 }
 
 impl Model for World {
@@ -52,6 +55,7 @@ impl World {
         Ok(World {
             state: State::open(alloc, setup)?,
             acted: blank(),
+            room: PageRoom::new(),
         })
     }
 
@@ -67,7 +71,7 @@ impl World {
     {
         group_stays_sound();
         sound_group_is_ready();
-        self.state.event(event, &mut self.acted)
+        self.state.event(event, &mut self.acted, &mut self.room)
     }
 
     /// How many events were answered since opening, otherwise than by want of memory.
@@ -85,9 +89,10 @@ impl World {
         self.state.sent_count()
     }
 
-    /// The packet of this number, from 1. None exactly where no packet of this number was sent.
-    pub fn sent(&self, i: u32) -> Option<&Packet>
-        ensures { option_copied result ≡ rule.sent_at self.now.world i }
+    /// The spelling of the packet of this number, from 1. None exactly where no packet of this number was sent.
+    pub fn sent(&self, i: u32) -> Option<&[u8]>
+        ensures spelled { option_copied result ≡ option_map spelling (rule.sent_at self.now.world i) }
+        ensures lawful { All HasSpelling self.now.world.net }
     {
         self.state.sent(i)
     }
