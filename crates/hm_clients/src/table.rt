@@ -1,48 +1,50 @@
-ghost use Rattle.std.specs.Prelude.{◌≡◌, ◌<◌, ◌≤◌, [], ◌∷◌, ◌++◌, List, IfOk, Some, nat_eq, ℕ, ◌+◌};
-ghost use Rattle.std.specs.HashMap.{get, hash_map_len, spare};
+ghost use Rattle.std.specs.Prelude.{◌≡◌, ◌<◌, ◌≤◌, [], ◌∷◌, ◌++◌, List, IfOk, Some};
 ghost use Rattle.hm_base.specs.declared.entry.Entry.{Entry};
-ghost use Rattle.hm_base.specs.Logs.{greatest_request, newest};
+ghost use Rattle.hm_base.specs.Logs.{greatest_request, is_newer};
 ghost use Rattle.hm_base.specs.Verdicts.{judge, judged};
 ghost use Rattle.hm_clients.specs.Table.{StandsFor, latest_of};
+ghost use Rattle.hm_store.specs.Log.{max_log_len};
 
 use hm_base::entry::Entry;
 use hm_base::memory::NoMemory;
-use hm_base::room::put;
 use hm_base::verdict::{LatestRequest, Verdict};
+use hm_store::last_places::LastPlaces;
 use std::alloc::Global;
-use std::collections::HashMap;
 use std::marker::Model;
 
 /// Each client's latest request among the entries noted since opening or the last `clear`, the log of the table. All memory
 /// is taken at opening. Clauses speak of every log that the table stands for.
 #[derive(Drop)]
 pub struct ClientTable {
-    latest: HashMap<u32, LatestRequest>,
+    /// Each request that was above its client's others when it was noted, with its client.
+    requests: Vec<(u32, LatestRequest)>,
+    clients: LastPlaces,
     count: u32,
     cap: u32,
 }
 
 impl Model for ClientTable {
-    ghost use Rattle.std.specs.Prelude.{◌+◌, ◌≤◌};
-    ghost use Rattle.std.specs.HashMap.{hash_map_len, spare};
     ghost use Rattle.hm_clients.specs.Table.{Table};
 
     ghost Value = { Table };
 
-    ghost view = { λ t. record { latest = t.latest.entries; count = t.count; cap = t.cap } };
+    ghost use Rattle.hm_clients.specs.Indexed.{table_of, IsIndexed};
 
-    ghost invariant = { λ t. (t.cap ≤ hash_map_len t.latest + spare t.latest) × (hash_map_len t.latest ≤ t.count) × (t.count ≤ t.cap) × (t.cap ≤ 16384) };
+    ghost view = { table_of };
+
+    ghost invariant = { IsIndexed };
 }
 
 impl ClientTable {
     /// The table of the empty log, with room for `cap` entries.
     pub fn open(alloc: Global, cap: u32) -> Result<ClientTable, NoMemory>
-        requires { cap ≤ 16384 }
+        requires { cap ≤ max_log_len }
         ensures empty { IfOk result (λ t. StandsFor t []) }
         ensures cap { IfOk result (λ t. t.cap ≡ cap) }
     {
         Ok(ClientTable {
-            latest: HashMap::with_capacity(alloc, cap as usize)?,
+            requests: Vec::with_capacity(alloc, cap as usize)?,
+            clients: LastPlaces::open(alloc, cap)?,
             count: 0,
             cap,
         })
@@ -52,9 +54,9 @@ impl ClientTable {
     pub fn judge(&self, client: u32, request: u64) -> Verdict
         ensures { (log : List Entry) → StandsFor self.now log → result ≡ judge log client request }
     {
-        match self.latest.get(&client) {
+        match self.latest_of(client) {
             None => Verdict::New,
-            Some(known) => judge_latest(*known, request),
+            Some(known) => judge_latest(known, request),
         }
     }
 
@@ -66,7 +68,12 @@ impl ClientTable {
         ensures noted { (log : List Entry) → StandsFor self.old log → StandsFor self.new (log ++ entry.now ∷ []) }
         ensures cap { self.new.cap ≡ self.old.cap }
     {
-        note_latest(&mut self.latest, entry, index);
+        let request = entry.request;
+        if self.is_newer(entry.client, request) {
+            let latest = LatestRequest { request, index };
+            self.requests.push_reserved((entry.client, latest));
+            self.clients.push(Some(entry.client));
+        }
         self.count = index + 1;
     }
 
@@ -75,8 +82,29 @@ impl ClientTable {
         ensures empty { StandsFor self.new [] }
         ensures cap { self.new.cap ≡ self.old.cap }
     {
-        self.latest.clear();
+        self.requests.clear();
+        self.clients.clear();
         self.count = 0;
+    }
+
+    /// The client's latest request.
+    fn latest_of(&self, client: u32) -> Option<LatestRequest>
+        ensures { result ≡ latest_of self.now client }
+    {
+        match self.clients.last_below(client, self.requests.len() as u32) {
+            Some(i) => Some(self.requests[i as usize].1),
+            None => None,
+        }
+    }
+
+    /// Whether a request is above the client's latest.
+    fn is_newer(&self, client: u32, request: u64) -> bool
+        ensures { result ≡ is_newer (latest_of self.now client) request }
+    {
+        match self.latest_of(client) {
+            None => true,
+            Some(known) => known.request < request,
+        }
     }
 }
 
@@ -90,22 +118,5 @@ fn judge_latest(known: LatestRequest, request: u64) -> Verdict
         Verdict::Old
     } else {
         Verdict::New
-    }
-}
-
-/// Notes an entry at its index: it becomes its client's latest where its request is above that.
-fn note_latest(latest: &mut HashMap<u32, LatestRequest>, entry: &Entry, index: u32)
-    requires { 0 < spare latest.old }
-    ensures latest { (c : ℕ) → get nat_eq latest.new c ≡ newest index (get nat_eq latest.old c) c entry.now }
-    ensures room { hash_map_len latest.old + spare latest.old ≤ hash_map_len latest.new + spare latest.new }
-    ensures one_more { hash_map_len latest.new ≤ hash_map_len latest.old + 1 }
-{
-    let is_newer = match latest.get(&entry.client) {
-        None => true,
-        Some(known) => known.request < entry.request,
-    };
-    if is_newer {
-        let request = entry.request;
-        put(latest, entry.client, LatestRequest { request, index });
     }
 }

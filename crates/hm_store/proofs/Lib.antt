@@ -1,2 +1,4 @@
+mod Chains
 mod Ends
 mod Parts
+mod Writes

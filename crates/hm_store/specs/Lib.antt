@@ -1,2 +1,4 @@
 pub mod Log
 pub mod Indexed
+pub mod Keys
+pub mod Chained

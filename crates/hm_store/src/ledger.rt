@@ -1,17 +1,16 @@
-ghost use Rattle.std.specs.Prelude.{◌≡◌, ◌<◌, ◌≤◌, ◌↔◌, [], ◌∷◌, ◌++◌, length, slice_get, IsOk, IsTrue, IfOk, OnOk, OnErr, nat_eq, vec_len, vec_capacity, ℕ, ◌+◌, drop, take, ◌-◌, fold};
-ghost use Rattle.std.specs.HashMap.{get, hash_map_len, spare};
+ghost use Rattle.std.specs.Prelude.{◌≡◌, ◌<◌, ◌≤◌, ◌↔◌, [], ◌∷◌, ◌++◌, length, slice_get, IsOk, IsTrue, IfOk, OnOk, OnErr, vec_len, vec_capacity, None, drop, take};
 ghost use Rattle.hm_base.specs.Lists.{IsPrefix};
-ghost use Rattle.hm_base.specs.Logs.{last_write, end_stamp, write_over, page, max_page_len};
+ghost use Rattle.hm_base.specs.Logs.{last_write, written, end_stamp, page, max_page_len};
+ghost use Rattle.hm_store.specs.Indexed.{written_object};
 ghost use Rattle.hm_store.specs.Log.{applied_entries, last_stamp, max_log_len};
 
+use crate::last_places::LastPlaces;
 use hm_base::entries::{Entries, MAX_PAGE_LEN};
 use hm_base::entry::{Act, Entry};
 use hm_base::memory::NoMemory;
-use hm_base::room;
 use hm_base::stamp::Stamp;
 use hm_base::value::Value;
 use std::alloc::Global;
-use std::collections::HashMap;
 use std::marker::Model;
 use std::mem::swap;
 
@@ -25,8 +24,8 @@ pub struct Ledger {
     entries: Vec<Entry>,
     applied_len: u32,
     cap: u32,
-    written: HashMap<u32, (Stamp, Value)>,
-    applied: HashMap<u32, (Stamp, Value)>,
+    /// The object that each entry writes, at the entry's place.
+    writes: LastPlaces,
 }
 
 /// The log has as many entries as it may have.
@@ -51,13 +50,11 @@ impl Ledger {
         requires { cap ≤ max_log_len }
         ensures { IfOk result (λ l. (l.entries ≡ []) × (l.applied ≡ 0) × (l.cap ≡ cap)) }
     {
-        let room = cap as usize;
         Ok(Ledger {
-            entries: Vec::with_capacity(alloc, room)?,
+            entries: Vec::with_capacity(alloc, cap as usize)?,
             applied_len: 0,
             cap,
-            written: HashMap::with_capacity(alloc, room)?,
-            applied: HashMap::with_capacity(alloc, room)?,
+            writes: LastPlaces::open(alloc, cap)?,
         })
     }
 
@@ -101,7 +98,7 @@ impl Ledger {
         if self.entries.len() >= self.cap as usize {
             return Err(LogFull);
         }
-        note_write(&mut self.written, &entry);
+        self.writes.push(written_object(&entry));
         put(&mut self.entries, entry);
         Ok(())
     }
@@ -112,10 +109,6 @@ impl Ledger {
         requires within { k ≤ length self.old.entries }
         ensures { self.new ≡ record self.old { applied = k } }
     {
-        note_writes(
-            &mut self.applied,
-            &self.entries[self.applied_len as usize..k as usize],
-        );
         self.applied_len = k;
     }
 
@@ -127,10 +120,9 @@ impl Ledger {
         ensures staged { staged.new ≡ record staged.old { entries = []; applied = 0 } }
     {
         swap(&mut self.entries, &mut staged.entries);
-        swap(&mut self.written, &mut staged.written);
+        swap(&mut self.writes, &mut staged.writes);
         staged.entries.clear();
-        staged.written.clear();
-        staged.applied.clear();
+        staged.writes.clear();
         staged.applied_len = 0;
     }
 
@@ -141,26 +133,36 @@ impl Ledger {
         ensures { self.new ≡ record self.old { entries = take k from.now.entries; applied = 0 } }
     {
         self.entries.clear();
-        self.written.clear();
-        self.applied.clear();
+        self.writes.clear();
         self.applied_len = 0;
-        let front = &from.entries[..k as usize];
-        note_writes(&mut self.written, front);
-        put_all(&mut self.entries, front);
+        for entry in &from.entries[..k as usize] {
+            let _ = self.push(*entry);
+        }
     }
 
     /// The stamp and value of the object's last write in the log. None exactly where it has none.
     pub fn latest(&self, object: u32) -> Option<(Stamp, Value)>
         ensures { result ≡ last_write self.now.entries object }
     {
-        self.written.get(&object).copied()
+        self.latest_below(object, self.entries.len() as u32)
     }
 
     /// The same in the applied prefix.
     pub fn applied(&self, object: u32) -> Option<(Stamp, Value)>
         ensures { result ≡ last_write (applied_entries self.now) object }
     {
-        self.applied.get(&object).copied()
+        self.latest_below(object, self.applied_len)
+    }
+
+    /// The same in the first `end` entries.
+    fn latest_below(&self, object: u32, end: u32) -> Option<(Stamp, Value)>
+        requires { end ≤ length self.now.entries }
+        ensures { result ≡ last_write (take end self.now.entries) object }
+    {
+        match self.writes.last_below(object, end) {
+            Some(i) => write_of(&self.entries[i as usize]),
+            None => None,
+        }
     }
 
     /// The entry at a place, counted from 0. None exactly from `len()` on.
@@ -214,42 +216,27 @@ fn put(entries: &mut Vec<Entry>, entry: Entry)
     ensures room { vec_capacity entries.old ≤ vec_capacity entries.new }
 {
     let _act = entry.act;
-    let pushed: Result<_, _> = entries.push(entry);
-    pushed.unwrap();
+    entries.push_reserved(entry);
 }
 
-/// Puts entries into room that is there.
-fn put_all(entries: &mut Vec<Entry>, more: &[Entry])
-    requires { vec_len entries.old + length more.now ≤ vec_capacity entries.old }
-    ensures items { entries.new.items ≡ entries.old.items ++ more.now }
-    ensures room { vec_capacity entries.old ≤ vec_capacity entries.new }
+/// The object that an entry writes. None exactly for a logged read.
+fn written_object(entry: &Entry) -> Option<u32>
+    ensures { result ≡ written_object entry.now }
 {
-    for entry in more {
-        put(entries, *entry);
+    if entry.is_write() {
+        Some(entry.object)
+    } else {
+        None
     }
 }
 
-/// Notes an entry that stands behind those noted, where it is a write.
-fn note_write(written: &mut HashMap<u32, (Stamp, Value)>, entry: &Entry)
-    requires { 0 < spare written.old }
-    ensures last { (o : ℕ) → get nat_eq written.new o ≡ write_over o (get nat_eq written.old o) entry.now }
-    ensures room { hash_map_len written.old + spare written.old ≤ hash_map_len written.new + spare written.new }
-    ensures one_more { hash_map_len written.new ≤ hash_map_len written.old + 1 }
+/// The stamp and value of a write. None exactly for a logged read.
+fn write_of(entry: &Entry) -> Option<(Stamp, Value)>
+    ensures { result ≡ written None entry.now.stamp entry.now.act }
 {
-    if let Act::Put(value) = entry.act {
-        room::put(written, entry.object, (entry.stamp, value));
-    }
-}
-
-/// Notes entries in a row.
-fn note_writes(written: &mut HashMap<u32, (Stamp, Value)>, entries: &[Entry])
-    requires { length entries.now ≤ spare written.old }
-    ensures last { (o : ℕ) → get nat_eq written.new o ≡ fold (write_over o) (get nat_eq written.old o) entries.now }
-    ensures room { hash_map_len written.old + spare written.old ≤ hash_map_len written.new + spare written.new }
-    ensures more { hash_map_len written.new ≤ hash_map_len written.old + length entries.now }
-{
-    for entry in entries {
-        note_write(written, entry);
+    match &entry.act {
+        Act::Put(value) => Some((entry.stamp, *value)),
+        Act::Look => None,
     }
 }
 

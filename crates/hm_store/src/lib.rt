@@ -1,4 +1,5 @@
 //! The replicated log with an index of each object's last write.
 #![tactic(auto)]
 
+pub mod last_places;
 pub mod ledger;
