@@ -9,7 +9,6 @@ pub mod memory;
 pub mod node;
 pub mod operation;
 pub mod reply;
-pub mod room;
 pub mod spelling;
 pub mod stamp;
 pub mod steps;
