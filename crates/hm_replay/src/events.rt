@@ -44,8 +44,8 @@ fn write_sent_from(world: &World, before: u32, text: &mut Text) -> Result<(), No
     ensures { OnOk result (text.new.items ≡ text.old.items ++ packet_lines (before + 1) (drop before world.now.world.net)) }
 {
     for i in before..world.sent_count() {
-        if let Some(packet) = world.sent(i + 1) {
-            write_sent(i + 1, packet, text)?;
+        if let Some(bytes) = world.sent(i + 1) {
+            write_sent(i + 1, bytes, text)?;
         }
     }
     Ok(())

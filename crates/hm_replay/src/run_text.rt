@@ -1,6 +1,8 @@
 ghost use Rattle.std.specs.Prelude.{◌≡◌, [], ◌∷◌, ◌++◌, OnOk, flat_map, codes};
 ghost use Rattle.hm_rules.specs.RunText.{why_text, bar_text, outcome_line, mark_line, packet_lines, order_text, place_line, bad_text};
+ghost use Rattle.hm_packet.specs.Messages.{Message};
 ghost use Rattle.hm_schedule.specs.Reasons.{reason_text};
+ghost use Rattle.hm_wire.specs.Packets.{spelling, HasSpelling};
 
 use hm_base::buffer::Text;
 use hm_base::memory::NoMemory;
@@ -9,9 +11,9 @@ use hm_base::text::{write_answer, write_bytes, write_number, write_op, write_sta
 use hm_base::why::Why;
 use hm_order::mark::Mark;
 use hm_packet::outcome::{Bar, Outcome};
-use hm_packet::packet::Packet;
-use hm_packet::text::write_packet;
 use hm_schedule::line::LineReason;
+use hm_wire::laws::{spelling_has_no_fault, spelling_tells_the_packet};
+use hm_wire_text::text::write_spelled;
 
 /// The name of a reason for ignoring a packet.
 fn why_name(why: Why) -> &'static str

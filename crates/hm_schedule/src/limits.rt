@@ -1,6 +1,6 @@
 //! The limits of a schedule.
 
-use hm_packet::outs::MAX_OUTS;
+use hm_packet::acted::MAX_OUTS;
 
 /// How many events a schedule may have.
 pub const MAX_EVENTS: u32 = 16_384;
