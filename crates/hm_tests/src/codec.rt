@@ -1,4 +1,5 @@
-use hm_codec::buf::Buf;
+use hm_base::entries::PageRoom;
+use hm_codec::buf::{Buf, MAX_LEN};
 use hm_codec::decode::decode;
 use hm_codec::encode::encode;
 use hm_wire::malformed::{Malformed, Reason};
@@ -389,7 +390,7 @@ const REFUSED: Case = Case {
 };
 
 /// The bytes with one of them set to 255.
-fn spoiled(bytes: &[u8], place: usize) -> Option<Buf> {
+fn spoiled(bytes: &[u8], place: usize) -> Option<Buf<MAX_LEN>> {
     let mut room = [0; 128];
     if bytes.len() > 128 || place >= bytes.len() {
         return None;
@@ -402,7 +403,9 @@ fn spoiled(bytes: &[u8], place: usize) -> Option<Buf> {
 
 /// Asserts that the bytes are a packet's, and are its spelling again.
 fn assert_spelled(rt: &impl Abort, bytes: &[u8]) -> Result<(), Fail> {
-    let packet = decode(bytes).ok().ok_or("a packet")?;
+    let mut room = PageRoom::new();
+    let mut packet = Packet::blank();
+    assert_eq!(rt; decode(bytes, &mut room, &mut packet), Ok(()));
     let mut buf = Buf::new();
     encode(&packet, &mut buf);
     assert_eq!(rt; buf.as_slice(), bytes);
@@ -411,8 +414,10 @@ fn assert_spelled(rt: &impl Abort, bytes: &[u8]) -> Result<(), Fail> {
 
 /// Asserts the fault of bytes.
 fn assert_fault(rt: &impl Abort, bytes: &[u8], at: u32, reason: Reason) -> Result<(), Fail> {
-    let fault = decode(bytes).err().ok_or("a fault")?;
-    assert_eq!(rt; fault, Malformed { at, reason });
+    let mut room = PageRoom::new();
+    let mut packet = Packet::blank();
+    let fault = Malformed { at, reason };
+    assert_eq!(rt; decode(bytes, &mut room, &mut packet), Err(fault));
     Ok(())
 }
 
@@ -467,8 +472,8 @@ fn refuses_what_follows_a_packet(rt: HostRuntime) -> Result<(), Fail> {
 #[test]
 fn holds_2048_bytes_at_most(rt: HostRuntime) -> Result<(), Fail> {
     let long = [7; 2049];
-    assert!(&rt; Buf::from_slice(&long).is_none());
-    let buf = Buf::from_slice(&long[..2048]).ok_or("2,048 bytes")?;
+    assert!(&rt; Buf::<MAX_LEN>::from_slice(&long).is_none());
+    let buf = Buf::<MAX_LEN>::from_slice(&long[..2048]).ok_or("2,048 bytes")?;
     assert_eq!(&rt; buf.as_slice(), &long[..2048]);
     Ok(())
 }

@@ -1,3 +1,4 @@
+use hm_base::entries::PageRoom;
 use hm_base::node::Node;
 use hm_codec::buf::Buf;
 use hm_frame::frame::{Unframer, frame};
@@ -13,7 +14,7 @@ const READ_FRAME: [u8; 26] = [
     0x00, 0x00, 0x00, 0x00, 0x00, 0x01, 0x00, 0x00, 0x00, 0x05,
 ];
 
-fn read_packet() -> Packet {
+fn read_packet() -> Packet<'static> {
     Packet {
         src: Node::Client(8),
         dst: Node::Switch(1),
@@ -28,9 +29,16 @@ fn read_packet() -> Packet {
 fn faults_of(alloc: Global, bytes: &[u8]) -> Result<[Option<Malformed>; 2], Fail> {
     let mut unframer = Unframer::new(alloc);
     unframer.feed(bytes)?;
-    let first = unframer.next().err();
+    let first = next_of(&mut unframer).err();
     unframer.feed(&[0])?;
-    Ok([first, unframer.next().err()])
+    Ok([first, next_of(&mut unframer).err()])
+}
+
+/// What is answered of the next frame, whose packet is forgotten.
+fn next_of(unframer: &mut Unframer) -> Result<bool, Malformed> {
+    let mut room = PageRoom::new();
+    let mut packet = Packet::blank();
+    unframer.next(&mut room, &mut packet)
 }
 
 #[test]
@@ -45,18 +53,18 @@ fn frames_a_packet(rt: HostRuntime) -> Result<(), Fail> {
 fn gives_a_packet_at_its_last_byte(rt: HostRuntime) -> Result<(), Fail> {
     let mut unframer = Unframer::new(rt.alloc());
     for (i, byte) in READ_FRAME.iter().enumerate() {
-        assert!(rt; matches!(unframer.next(), Ok(None)));
+        assert_eq!(rt; next_of(&mut unframer), Ok(false));
         assert_eq!(rt; unframer.held(), i);
         unframer.feed(&[*byte])?;
     }
-    let Ok(Some(packet)) = unframer.next() else {
-        return Err(Fail::new("no packet"));
-    };
+    let mut room = PageRoom::new();
+    let mut packet = Packet::blank();
+    assert_eq!(rt; unframer.next(&mut room, &mut packet), Ok(true));
     let mut buf = Buf::new();
     frame(&packet, &mut buf);
     assert_eq!(rt; buf.as_slice(), READ_FRAME.as_slice());
     assert_eq!(rt; unframer.held(), 0);
-    assert!(rt; matches!(unframer.next(), Ok(None)));
+    assert_eq!(rt; next_of(&mut unframer), Ok(false));
     Ok(())
 }
 
