@@ -2,6 +2,7 @@ use hm_base::entries::PageRoom;
 use hm_codec::buf::{Buf, MAX_LEN};
 use hm_codec::decode::decode;
 use hm_codec::encode::encode;
+use hm_packet::packet::Packet;
 use hm_wire::malformed::{Malformed, Reason};
 use std::process::Abort;
 use std::test::Fail;
