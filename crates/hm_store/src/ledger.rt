@@ -1,7 +1,7 @@
 ghost use Rattle.std.specs.Prelude.{◌≡◌, ◌<◌, ◌≤◌, ◌↔◌, [], ◌∷◌, ◌++◌, length, slice_get, IsOk, IsTrue, IfOk, OnOk, OnErr, nat_eq, vec_len, vec_capacity, ℕ, ◌+◌, drop, take, ◌-◌, fold};
 ghost use Rattle.std.specs.HashMap.{get, hash_map_len, spare};
 ghost use Rattle.hm_base.specs.Lists.{IsPrefix};
-ghost use Rattle.hm_base.specs.Logs.{last_write, end_stamp, write_over, page, max_page_len};
+ghost use Rattle.hm_base.specs.Logs.{last_write, end_stamp, write_over, page};
 ghost use Rattle.hm_store.specs.Log.{applied_entries, last_stamp, max_log_len};
 
 use hm_base::entries::{Entries, MAX_PAGE_LEN};
@@ -171,13 +171,13 @@ impl Ledger {
     }
 
     /// The page of the log from a place on, empty from `len()` on.
-    pub fn page(&self, from: u32) -> Entries
+    pub fn page(&self, from: u32) -> Entries<'_>
         ensures { result ≡ page self.now.entries from }
     {
         let end = self.entries.len();
         let first = end.min(from as usize);
         let last = end.min(first + MAX_PAGE_LEN);
-        page_of(&self.entries[first..last])
+        Entries::of(&self.entries[first..last])
     }
 
     /// The entries from one place up to another.
@@ -251,19 +251,6 @@ fn note_writes(written: &mut HashMap<u32, (Stamp, Value)>, entries: &[Entry])
     for entry in entries {
         note_write(written, entry);
     }
-}
-
-/// The page of some entries.
-fn page_of(entries: &[Entry]) -> Entries
-    requires { length entries.now ≤ max_page_len }
-    ensures { result ≡ entries.now }
-{
-    let mut page = Entries::new();
-    for entry in entries {
-        let _act = entry.act;
-        let _ = page.try_push(*entry);
-    }
-    page
 }
 
 /// The stamp of the last of some entries, if there are any.
