@@ -178,6 +178,7 @@ fn grown(before: u32, len: u32) -> Took
 }
 
 /// The entries of a page from a place on.
+#[inline]
 fn new_of<'a>(entries: &Entries<'a>, from: u32) -> &'a [Entry]
     ensures { result.now ≡ drop from entries.now }
 {
