@@ -15,13 +15,14 @@ use hm_base::memory::NoMemory;
 use hm_base::node::Node;
 use hm_base::verdict::{Admit, Verdict};
 use hm_base::why::Why;
+use hm_codec::acted::Acted;
+use hm_codec::outs::Outs;
 use hm_feed::follower::{Took, take};
 use hm_feed::sender::Sender;
-use hm_packet::acted::{Acted, Declared};
+use hm_packet::acted::Declared;
 use hm_packet::body::{
     Ask, Body, Config, FastRead, Feed, FeedAck, NormalRead, Put, Refuse, Refused,
 };
-use hm_packet::outs::Outs;
 use hm_packet::packet::Packet;
 use hm_replica::acts::{ignore, log_full, push, send_none, send_one};
 use hm_replica::answers::push_answers;
@@ -166,7 +167,7 @@ impl Chain {
         ensures { step_of self.now acted.new ≡ rules.chain_fast_read self.now read.now }
     {
         match self.shim.read_ahead(read) {
-            Local::Answer(reply) => send_one(acted, reply_packet(self.me, read.client, reply)),
+            Local::Answer(reply) => send_one(acted, &reply_packet(self.me, read.client, reply)),
             Local::Pass => {
                 let normal = NormalRead {
                     client: read.client,
@@ -187,7 +188,7 @@ impl Chain {
         }
         let found = self.shim.log().latest(read.object);
         let reply = reply_to(read.request, found);
-        send_one(acted, reply_packet(self.me, read.client, reply));
+        send_one(acted, &reply_packet(self.me, read.client, reply));
     }
 
     /// A page, from the predecessor.
@@ -263,7 +264,7 @@ impl Chain {
         let refused = Body::Refused(Refused {
             switch: refuse.switch,
         });
-        send_one(acted, packet_from(self.me, Node::Config, refused));
+        send_one(acted, &packet_from(self.me, Node::Config, refused));
     }
 
     /// A write that the log has at this index: the tail completes it again, another head asks the tail to.
@@ -274,7 +275,7 @@ impl Chain {
             return ignore(acted, Why::Repeat);
         }
         if self.is_tail() {
-            return send_one(acted, done_packet(self.me, self.shim.accepted(), entry));
+            return send_one(acted, &done_packet(self.me, self.shim.accepted(), entry));
         }
         let ask = Body::Ask(Ask {
             view: self.view(),
@@ -282,7 +283,7 @@ impl Chain {
             request: entry.request,
         });
         let tail = last_member(&self.members);
-        send_one(acted, packet_from(self.me, Node::Replica(tail), ask));
+        send_one(acted, &packet_from(self.me, Node::Replica(tail), ask));
     }
 
     /// A normal read, here at the tail, else passed on to it.
@@ -293,7 +294,7 @@ impl Chain {
             return self.on_normal_read(read, acted);
         }
         let tail = Node::Replica(last_member(&self.members));
-        send_one(acted, packet_from(self.me, tail, Body::NormalRead(*read)));
+        send_one(acted, &packet_from(self.me, tail, Body::NormalRead(*read)));
     }
 
     /// Takes a page in and acknowledges it. New entries go on.
@@ -305,11 +306,11 @@ impl Chain {
             Took::Gap => ignore(acted, Why::Gap),
             Took::LogFull => log_full(acted),
             Took::Grown(_) => {
-                send_one(acted, self.ack_to(from));
+                send_one(acted, &self.ack_to(from));
                 self.grew(acted);
             }
             Took::Same(_) | Took::Staged(_) | Took::Adopted(_) => {
-                send_one(acted, self.ack_to(from));
+                send_one(acted, &self.ack_to(from));
             }
         }
     }
@@ -377,7 +378,7 @@ impl Chain {
         ensures { step_of self.now acted.new ≡ steps.sends self.now (steps.done_if_any self.now (slice_get self.now.log index)) }
     {
         match self.shim.log().entry(index) {
-            Some(entry) => send_one(acted, done_packet(self.me, self.shim.accepted(), &entry)),
+            Some(entry) => send_one(acted, &done_packet(self.me, self.shim.accepted(), &entry)),
             None => send_none(acted),
         }
     }
@@ -402,17 +403,19 @@ impl Chain {
     }
 
     /// Puts the page to the successor behind the packets, if there is a successor.
+    #[inline(always)]
     fn pass_on(&self, outs: &mut Outs)
         requires { length outs.old < max_outs }
         ensures { outs.new ≡ outs.old ++ rules.passes_on self.now }
     {
         if let Some(behind) = self.successor() {
-            push(outs, self.page_to(behind));
+            push(outs, &self.page_to(behind));
         }
     }
 
     /// The page to a replica.
-    fn page_to(&self, other: u8) -> Packet
+    #[inline(always)]
+    fn page_to(&self, other: u8) -> Packet<'_>
         requires { other ≤ 6 }
         ensures { result ≡ steps.page_to self.now 0 0 other }
     {
@@ -421,7 +424,8 @@ impl Chain {
     }
 
     /// The acknowledgement of what the log holds.
-    fn ack_to(&self, other: u8) -> Packet
+    #[inline(always)]
+    fn ack_to(&self, other: u8) -> Packet<'static>
         requires { other ≤ 6 }
         ensures { result ≡ steps.ack_to self.now other }
     {
@@ -433,6 +437,7 @@ impl Chain {
     }
 
     /// Whether this is the first member.
+    #[inline]
     fn is_head(&self) -> bool
         ensures { result ≡ rules.is_head self.now }
     {
@@ -440,6 +445,7 @@ impl Chain {
     }
 
     /// Whether this is the last member.
+    #[inline]
     fn is_tail(&self) -> bool
         ensures { result ≡ rules.is_tail self.now }
     {
@@ -447,6 +453,7 @@ impl Chain {
     }
 
     /// The next member, if there is one.
+    #[inline]
     fn successor(&self) -> Option<u8>
         ensures value { result ≡ rules.successor self.now }
         ensures within { IfSome result (λ m. m ≤ 6) }
@@ -455,6 +462,7 @@ impl Chain {
     }
 
     /// The member before, if there is one.
+    #[inline]
     fn predecessor(&self) -> Option<u8>
         ensures value { result ≡ rules.predecessor self.now }
         ensures within { IfSome result (λ m. m ≤ 6) }

@@ -1,2 +1,1 @@
 mod Quorums
-mod Parts

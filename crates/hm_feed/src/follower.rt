@@ -109,7 +109,7 @@ pub fn take(shim: &mut Shim, feed: &Feed) -> Took
     match new_from(feed, held, shim.log().cap()) {
         Err(refusal) => refusal,
         Ok(from) => {
-            extend(shim, &feed.entries, from);
+            extend(shim, new_of(&feed.entries, from));
             grown(held, shim.log().len())
         }
     }
@@ -127,7 +127,7 @@ fn stage(staged: &mut Ledger, shim: &mut Shim, feed: &Feed) -> Took
     match new_from(feed, staged.len(), staged.cap()) {
         Err(refusal) => refusal,
         Ok(from) => {
-            extend_list(staged, &feed.entries, from);
+            extend_list(staged, new_of(&feed.entries, from));
             adopt_from(feed.start, staged, shim)
         }
     }
@@ -177,44 +177,31 @@ fn grown(before: u32, len: u32) -> Took
     }
 }
 
-/// Puts the entries from a place on behind the log, which has room for them.
-fn extend(shim: &mut Shim, entries: &Entries, from: u32)
-    requires { length shim.old.entries + (length entries.now - from) ≤ shim.old.cap }
-    ensures { shim.new ≡ record shim.old { entries = shim.old.entries ++ drop from entries.now } }
+/// The entries of a page from a place on.
+#[inline]
+fn new_of<'a>(entries: &Entries<'a>, from: u32) -> &'a [Entry]
+    ensures { result.now ≡ drop from entries.now }
 {
-    for i in from..entries.len() {
-        match entries.get(i) {
-            Some(entry) => put(shim, entry),
-            None => {}
-        }
+    let all = entries.as_slice();
+    &all[all.len().min(from as usize)..]
+}
+
+/// Puts entries behind the log, which has room for them.
+fn extend(shim: &mut Shim, entries: &[Entry])
+    requires { length shim.old.entries + length entries.now ≤ shim.old.cap }
+    ensures { shim.new ≡ record shim.old { entries = shim.old.entries ++ entries.now } }
+{
+    for entry in entries {
+        let _ = shim.append(*entry);
     }
 }
 
-/// Puts an entry behind the log, which has room for it.
-fn put(shim: &mut Shim, entry: Entry)
-    requires { length shim.old.entries < shim.old.cap }
-    ensures { shim.new ≡ record shim.old { entries = shim.old.entries ++ entry ∷ [] } }
+/// Puts entries behind a list, which has room for them.
+fn extend_list(list: &mut Ledger, entries: &[Entry])
+    requires { length list.old.entries + length entries.now ≤ list.old.cap }
+    ensures { list.new ≡ record list.old { entries = list.old.entries ++ entries.now } }
 {
-    let _ = shim.append(entry);
-}
-
-/// Puts the entries from a place on behind a list, which has room for them.
-fn extend_list(list: &mut Ledger, entries: &Entries, from: u32)
-    requires { length list.old.entries + (length entries.now - from) ≤ list.old.cap }
-    ensures { list.new ≡ record list.old { entries = list.old.entries ++ drop from entries.now } }
-{
-    for i in from..entries.len() {
-        match entries.get(i) {
-            Some(entry) => put_last(list, entry),
-            None => {}
-        }
+    for entry in entries {
+        let _ = list.push(*entry);
     }
-}
-
-/// Puts an entry behind a list, which has room for it.
-fn put_last(list: &mut Ledger, entry: Entry)
-    requires { length list.old.entries < list.old.cap }
-    ensures { list.new ≡ record list.old { entries = list.old.entries ++ entry ∷ [] } }
-{
-    let _ = list.push(entry);
 }

@@ -48,7 +48,7 @@ impl Sender {
     }
 
     /// The page of the log for a replica: what it hasn't acknowledged yet, at most a page.
-    pub fn page(&self, log: &Ledger, commit: u32, to: u8) -> Feed
+    pub fn page<'a>(&self, log: &'a Ledger, commit: u32, to: u8) -> Feed<'a>
         requires { to ≤ 6 }
         ensures { result ≡ sending.page_to self.now log.now.entries commit to }
     {

@@ -1,4 +1,4 @@
-ghost use Rattle.std.specs.Prelude.{◌≡◌, ◌≤◌, ◌+◌, ◌∷◌, [], ◌++◌, false, map, length, Some, None, IfOk, IfErr, OnOk, OnErr};
+ghost use Rattle.std.specs.Prelude.{◌≡◌, ◌≤◌, ◌+◌, ◌∷◌, [], ◌++◌, false, map, length, Some, None, IfErr, OnOk, OnErr};
 ghost use Rattle.hm_packet.specs.Messages.{IsLawfulNode};
 ghost use Rattle.hm_rules.specs.Service as rules;
 ghost use Rattle.hm_reconfig.specs.Groups.{config_of, remove_fault, unasked};
@@ -8,9 +8,9 @@ use crate::groups::{first_members, without};
 use hm_base::members::Members;
 use hm_base::node::{GroupKind, Node};
 use hm_base::why::Why;
+use hm_codec::outs::Outs;
 use hm_packet::acted::Did;
 use hm_packet::body::{Body, Config};
-use hm_packet::outs::Outs;
 use hm_packet::packet::Packet;
 use hm_packet::route::Route;
 use hm_replica::acts::push;
@@ -53,15 +53,17 @@ impl Service {
         }
     }
 
-    /// Removes a member, which has to be stopped for good: the epoch rises by one, and the answer is what to send, the new
-    /// epoch to each member that is left, in rising order, and the route to the newest switch. Refused, with nothing changed,
-    /// exactly where the group is fixed, as in Viewstamped Replication, where the replica is no member, or the only one.
-    pub fn remove(&mut self, replica: u8) -> Result<Outs, RemoveFault>
+    /// Removes a member, which has to be stopped for good: the epoch rises by one, and in `outs`, in place of what stood
+    /// there, comes what to send: the new epoch to each member that is left, in rising order, and the route to the newest
+    /// switch. Refused, with nothing changed, exactly where the group is fixed, as in Viewstamped Replication, where the
+    /// replica is no member, or the only one.
+    pub fn remove(&mut self, replica: u8, outs: &mut Outs) -> Result<(), RemoveFault>
         ensures fault { IfErr result (λ f. remove_fault self.old replica ≡ Some f) }
         ensures allowed { OnOk result (remove_fault self.old replica ≡ None) }
         ensures service { OnOk result (self.new ≡ (rules.removes self.old replica).service) }
-        ensures outs { IfOk result (λ o. o ≡ (rules.removes self.old replica).outs) }
+        ensures outs { OnOk result (outs.new ≡ (rules.removes self.old replica).outs) }
         ensures err { OnErr result (self.new ≡ self.old) }
+        ensures unsent { OnErr result (outs.new ≡ outs.old) }
     {
         if self.kind == GroupKind::Vr {
             return Err(RemoveFault::Fixed);
@@ -77,7 +79,8 @@ impl Service {
         };
         self.members = rest;
         self.epoch += 1;
-        Ok(self.announce())
+        self.announce(outs);
+        Ok(())
     }
 
     /// A packet that arrives at the service. While no switch is replaced it takes notice of none.
@@ -126,13 +129,12 @@ impl Service {
     }
 
     /// The present epoch, to each member and to the newest switch.
-    fn announce(&self) -> Outs
-        ensures { result ≡ (rules.announces self.now).outs }
+    fn announce(&self, outs: &mut Outs)
+        ensures { outs.new ≡ (rules.announces self.now).outs }
     {
-        let mut outs = configs(self.epoch, &self.members);
+        configs(self.epoch, &self.members, outs);
         let route = Body::Route(self.route());
-        push(&mut outs, from_service(Node::Switch(self.newest), route));
-        outs
+        push(outs, &from_service(Node::Switch(self.newest), route));
     }
 
     /// Why no notice is taken of a packet.
@@ -159,28 +161,27 @@ impl Service {
     }
 }
 
-/// The epoch, to each of its members.
-fn configs(epoch: u32, members: &Members) -> Outs
-    ensures { result ≡ map (config_of epoch members.now) members.now }
+/// Puts the epoch, to each of its members, in the place of what stood in `outs`.
+fn configs(epoch: u32, members: &Members, outs: &mut Outs)
+    ensures { outs.new ≡ map (config_of epoch members.now) members.now }
 {
-    let mut outs = Outs::new();
+    outs.clear();
     for member in members.as_slice() {
         let config = Config {
             view: epoch,
             members: members.copy(),
         };
         push(
-            &mut outs,
-            from_service(Node::Replica(*member), Body::Config(config)),
+            outs,
+            &from_service(Node::Replica(*member), Body::Config(config)),
         );
     }
-    outs
 }
 
 /// A packet from the service.
-fn from_service(dst: Node, body: Body) -> Packet
+fn from_service(dst: Node, body: Body<'static>) -> Packet<'static>
     requires { IsLawfulNode dst }
-    ensures { result ≡ rules.from_service dst body }
+    ensures { result ≡ rules.from_service dst body.entry }
 {
     Packet {
         src: Node::Config,

@@ -1,6 +1,6 @@
 -- What a call of a replica gives, part by part.
 use Rattle.std.specs.Prelude.{◌≡◌}
-use Rattle.hm_packet.specs.declared.acted.Acted.{Acted}
+use Rattle.hm_codec.specs.declared.acted.Acted.{Acted}
 use Rattle.hm_rules.specs.Replica.{Replica}
 use Rattle.hm_rules.specs.ReplicaSteps.{Stepped}
 

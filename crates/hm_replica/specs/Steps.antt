@@ -1,7 +1,7 @@
 -- What a replica's step gave, as the rules put it.
 use Rattle.std.specs.Prelude.{ℕ, List, []}
 use Rattle.hm_base.specs.declared.why.Why.{Why}
-use Rattle.hm_packet.specs.declared.acted.Acted.{Acted}
+use Rattle.hm_codec.specs.declared.acted.Acted.{Acted}
 use Rattle.hm_packet.specs.declared.acted.Did.TheVariants as did
 use Rattle.hm_packet.specs.Messages.{Message}
 use Rattle.hm_rules.specs.Replica.{Replica, opened}

@@ -4,8 +4,9 @@ ghost use Rattle.hm_rules.specs.ReplicaSteps.{nothing};
 ghost use Rattle.hm_replica.specs.Steps.{ignored_act, log_full_act, sends_act};
 
 use hm_base::why::Why;
-use hm_packet::acted::{Acted, Declared, Did};
-use hm_packet::outs::Outs;
+use hm_codec::acted::Acted;
+use hm_codec::outs::Outs;
+use hm_packet::acted::{Declared, Did};
 use hm_packet::packet::Packet;
 
 /// The empty range of a log.
@@ -23,6 +24,7 @@ pub fn blank() -> Acted
 }
 
 /// No notice is taken of a packet.
+#[inline(always)]
 pub fn ignore(acted: &mut Acted, why: Why)
     ensures { acted.new ≡ ignored_act why }
 {
@@ -30,6 +32,7 @@ pub fn ignore(acted: &mut Acted, why: Why)
 }
 
 /// The log has no room for a packet.
+#[inline(always)]
 pub fn log_full(acted: &mut Acted)
     ensures { acted.new ≡ log_full_act }
 {
@@ -37,6 +40,7 @@ pub fn log_full(acted: &mut Acted)
 }
 
 /// A step that sends and declares nothing.
+#[inline(always)]
 pub fn send_none(acted: &mut Acted)
     ensures { acted.new ≡ sends_act [] }
 {
@@ -44,14 +48,16 @@ pub fn send_none(acted: &mut Acted)
 }
 
 /// A step that sends one packet and declares nothing.
-pub fn send_one(acted: &mut Acted, packet: Packet)
-    ensures { acted.new ≡ sends_act (packet ∷ []) }
+#[inline(always)]
+pub fn send_one(acted: &mut Acted, packet: &Packet)
+    ensures { acted.new ≡ sends_act (packet.now ∷ []) }
 {
     send_none(acted);
     push(&mut acted.outs, packet);
 }
 
 /// A step that sends and declares nothing ends so.
+#[inline(always)]
 fn end(acted: &mut Acted, did: Did)
     ensures { acted.new ≡ record { outs = []; declared = nothing; did = did } }
 {
@@ -61,9 +67,10 @@ fn end(acted: &mut Acted, did: Did)
 }
 
 /// Puts a packet behind the others, where there is room for it.
-pub fn push(outs: &mut Outs, packet: Packet)
+#[inline(always)]
+pub fn push(outs: &mut Outs, packet: &Packet)
     requires { length outs.old < max_outs }
-    ensures { outs.new ≡ outs.old ++ packet ∷ [] }
+    ensures { outs.new ≡ outs.old ++ packet.now ∷ [] }
 {
     let _ = outs.try_push(packet);
 }

@@ -6,7 +6,7 @@ ghost use Rattle.hm_rules.specs.ReplicaSteps as steps;
 use crate::acts::push;
 use crate::packets::{done_packet, reply_packet};
 use hm_base::entry::{Act, Entry};
-use hm_packet::outs::Outs;
+use hm_codec::outs::Outs;
 use hm_packet::packet::Packet;
 use hm_shim::shim::{Shim, reply_to};
 
@@ -14,7 +14,7 @@ use hm_shim::shim::{Shim, reply_to};
 pub const MAX_ANSWERED: u32 = 16;
 
 /// What a committed entry is answered by: a write by its completion, a logged read by the reply to its client.
-pub fn answer_entry(me: u8, shim: &Shim, entry: &Entry) -> Packet
+pub fn answer_entry(me: u8, shim: &Shim, entry: &Entry) -> Packet<'static>
     requires { me ≤ 6 }
     ensures { result ≡ steps.answer_entry (with_log me shim.now) entry.now }
 {
@@ -47,6 +47,6 @@ fn push_answers_to(outs: &mut Outs, me: u8, shim: &Shim, entries: &[Entry])
     ensures { outs.new ≡ outs.old ++ map (steps.answer_entry (with_log me shim.now)) entries.now }
 {
     for entry in entries {
-        push(outs, answer_entry(me, shim, entry));
+        push(outs, &answer_entry(me, shim, entry));
     }
 }

@@ -1,6 +1,6 @@
 ghost use Rattle.std.specs.Prelude.{◌≡◌, ℕ, Bool, Some, None};
 ghost use Rattle.hm_base.specs.declared.why.Why.{Why};
-ghost use Rattle.hm_packet.specs.declared.acted.Acted.{Acted};
+ghost use Rattle.hm_codec.specs.declared.acted.Acted.{Acted};
 ghost use Rattle.hm_packet.specs.declared.body.Body.{Body};
 ghost use Rattle.hm_packet.specs.Messages.{Message};
 ghost use Rattle.hm_rules.specs.Senders.{number};

@@ -10,10 +10,11 @@ use hm_packet::body::{Body, Done, Put, Reply};
 use hm_packet::packet::Packet;
 
 /// A packet from a replica.
-pub fn packet_from(me: u8, dst: Node, body: Body) -> Packet
+#[inline(always)]
+pub fn packet_from<'a>(me: u8, dst: Node, body: Body<'a>) -> Packet<'a>
     requires me { me ≤ 6 }
     requires dst { IsLawfulNode dst }
-    ensures { result ≡ record { src = node.Replica me; dst = dst; body = body } }
+    ensures { result ≡ record { src = node.Replica me; dst = dst; body = body.entry } }
 {
     Packet {
         src: Node::Replica(me),
@@ -23,7 +24,8 @@ pub fn packet_from(me: u8, dst: Node, body: Body) -> Packet
 }
 
 /// The completion of a logged write, to the switch whose stamps are taken.
-pub fn done_packet(me: u8, accepted: u32, entry: &Entry) -> Packet
+#[inline(always)]
+pub fn done_packet(me: u8, accepted: u32, entry: &Entry) -> Packet<'static>
     requires { me ≤ 6 }
     ensures { result ≡ record { src = node.Replica me; dst = node.Switch accepted; body = body.Done (record { stamp = entry.now.stamp; client = entry.now.client; request = entry.now.request }) } }
 {
@@ -36,7 +38,8 @@ pub fn done_packet(me: u8, accepted: u32, entry: &Entry) -> Packet
 }
 
 /// The reply to a client.
-pub fn reply_packet(me: u8, client: u32, reply: Reply) -> Packet
+#[inline(always)]
+pub fn reply_packet(me: u8, client: u32, reply: Reply) -> Packet<'static>
     requires { me ≤ 6 }
     ensures { result ≡ record { src = node.Replica me; dst = node.Client client; body = body.Reply reply } }
 {
@@ -44,6 +47,7 @@ pub fn reply_packet(me: u8, client: u32, reply: Reply) -> Packet
 }
 
 /// The entry of a write that an entry node takes.
+#[inline(always)]
 pub fn entry_of(put: &Put) -> Entry
     ensures { result ≡ steps.entry_of put.now }
 {

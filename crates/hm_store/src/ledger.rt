@@ -1,6 +1,6 @@
 ghost use Rattle.std.specs.Prelude.{◌≡◌, ◌<◌, ◌≤◌, ◌↔◌, [], ◌∷◌, ◌++◌, length, slice_get, IsOk, IsTrue, IfOk, OnOk, OnErr, vec_len, vec_capacity, None, drop, take};
 ghost use Rattle.hm_base.specs.Lists.{IsPrefix};
-ghost use Rattle.hm_base.specs.Logs.{last_write, written, end_stamp, page, max_page_len};
+ghost use Rattle.hm_base.specs.Logs.{last_write, written, end_stamp, page};
 ghost use Rattle.hm_store.specs.Indexed.{written_object};
 ghost use Rattle.hm_store.specs.Log.{applied_entries, last_stamp, max_log_len};
 
@@ -173,13 +173,13 @@ impl Ledger {
     }
 
     /// The page of the log from a place on, empty from `len()` on.
-    pub fn page(&self, from: u32) -> Entries
+    pub fn page(&self, from: u32) -> Entries<'_>
         ensures { result ≡ page self.now.entries from }
     {
         let end = self.entries.len();
         let first = end.min(from as usize);
         let last = end.min(first + MAX_PAGE_LEN);
-        page_of(&self.entries[first..last])
+        Entries::of(&self.entries[first..last])
     }
 
     /// The entries from one place up to another.
@@ -238,19 +238,6 @@ fn write_of(entry: &Entry) -> Option<(Stamp, Value)>
         Act::Put(value) => Some((entry.stamp, *value)),
         Act::Look => None,
     }
-}
-
-/// The page of some entries.
-fn page_of(entries: &[Entry]) -> Entries
-    requires { length entries.now ≤ max_page_len }
-    ensures { result ≡ entries.now }
-{
-    let mut page = Entries::new();
-    for entry in entries {
-        let _act = entry.act;
-        let _ = page.try_push(*entry);
-    }
-    page
 }
 
 /// The stamp of the last of some entries, if there are any.

@@ -164,9 +164,9 @@ impl Switch {
     }
 
     /// A packet from this switch.
-    fn sent(&self, dst: Node, body: Body) -> Turn
+    fn sent(&self, dst: Node, body: Body<'static>) -> Turn
         requires { IsLawfulNode dst }
-        ensures { result ≡ sent_from self.now.id dst body }
+        ensures { result ≡ sent_from self.now.id dst body.entry }
     {
         Turn::Sent(Packet {
             src: Node::Switch(self.id),

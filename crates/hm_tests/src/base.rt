@@ -1,4 +1,5 @@
-use hm_base::entries::Entries;
+use hm_base::buffer::Text;
+use hm_base::entries::PageRoom;
 use hm_base::entry::{Act, Entry};
 use hm_base::members::{Members, NotRising};
 use hm_base::node::Node;
@@ -95,12 +96,12 @@ fn holds_sixteen_entries(rt: HostRuntime) -> Result<(), Fail> {
         act,
     };
     assert!(rt; write.is_write());
-    let mut entries = Entries::new();
+    let mut room = PageRoom::new();
     for _ in 0..16 {
-        assert!(rt; entries.try_push(write).is_ok());
+        assert!(rt; room.try_push(write).is_ok());
     }
-    assert!(rt; entries.try_push(write).is_err());
-    let copy = entries.copy();
+    assert!(rt; room.try_push(write).is_err());
+    let copy = room.entries().copy();
     assert_eq!(rt; copy.len(), 16);
     assert_eq!(rt; copy.as_slice().len(), 16);
     assert!(rt; copy.get(15).is_some());
@@ -112,7 +113,7 @@ fn holds_sixteen_entries(rt: HostRuntime) -> Result<(), Fail> {
 fn writes_words(rt: HostRuntime) -> Result<(), Fail> {
     let value = Value::from_slice(&[0x61, 0x0f]).ok_or("a value")?;
     let none = Value::from_slice(&[]).ok_or("no bytes")?;
-    let mut out = Vec::new(rt.alloc());
+    let mut out = Text::new(rt.alloc());
     write_stamp(Stamp { switch: 1, seq: 9 }, &mut out)?;
     let op = OpId {
         client: 7,

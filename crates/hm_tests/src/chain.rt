@@ -1,5 +1,7 @@
 ghost use Rattle.std.specs.Prelude.{◌≤◌};
 
+use crate::sent::write_last;
+use hm_base::buffer::Text;
 use hm_base::entries::Entries;
 use hm_base::entry::{Act, Entry};
 use hm_base::members::Members;
@@ -7,10 +9,10 @@ use hm_base::node::Node;
 use hm_base::stamp::Stamp;
 use hm_base::value::Value;
 use hm_chain::chain::Chain;
-use hm_packet::acted::{Acted, Declared};
+use hm_codec::acted::Acted;
+use hm_packet::acted::Declared;
 use hm_packet::body::{Body, Config, FastRead, Feed, NormalRead, Put};
 use hm_packet::packet::Packet;
-use hm_packet::text::write_packet;
 use hm_replica::acts::blank;
 use std::alloc::Global;
 use std::process::Abort;
@@ -22,9 +24,8 @@ const TWO: Stamp = Stamp { switch: 1, seq: 2 };
 
 /// Asserts that a step sent packets of which the last has this text.
 fn assert_last(rt: &impl Abort, alloc: Global, acted: &Acted, text: &[u8]) -> Result<(), Fail> {
-    let mut out = Vec::new(alloc);
-    let last = acted.outs.len().saturating_sub(1);
-    write_packet(acted.outs.get(last).ok_or("a packet")?, &mut out)?;
+    let mut out = Text::new(alloc);
+    write_last(&acted.outs, &mut out)?;
     assert_eq!(rt; out.as_slice(), text);
     Ok(())
 }
@@ -39,7 +40,7 @@ fn member_of_three(alloc: Global, me: u8) -> Result<Chain, Fail>
     Ok(Chain::open(alloc, me, &members, 16)?)
 }
 
-fn from_switch(me: u8, body: Body) -> Packet
+fn from_switch(me: u8, body: Body<'static>) -> Packet<'static>
     requires { me ≤ 6 }
 {
     Packet {
@@ -49,16 +50,19 @@ fn from_switch(me: u8, body: Body) -> Packet
     }
 }
 
-/// A page of one write from replica 0 to replica 1.
-fn page_of_one(first: u32, stamp: Stamp, request: u64, value: Value) -> Packet {
-    let mut entries = Entries::new();
-    let _ = entries.try_push(Entry {
+/// A client's write.
+fn write(stamp: Stamp, request: u64, value: Value) -> Entry {
+    Entry {
         stamp,
         client: 7,
         request,
         object: 5,
         act: Act::Put(value),
-    });
+    }
+}
+
+/// A page of one entry from replica 0 to replica 1.
+fn page_of_one(first: u32, log: &[Entry; 1]) -> Packet<'_> {
     Packet {
         src: Node::Replica(0),
         dst: Node::Replica(1),
@@ -67,7 +71,7 @@ fn page_of_one(first: u32, stamp: Stamp, request: u64, value: Value) -> Packet {
             start: 0,
             first,
             commit: 0,
-            entries,
+            entries: Entries::of(log),
         }),
     }
 }
@@ -118,9 +122,9 @@ fn a_read_behind_a_write_goes_to_the_tail(rt: HostRuntime) -> Result<(), Fail> {
     let second = Value::from_slice(b"b").ok_or("a value")?;
     let mut chain = member_of_three(alloc, 1)?;
     let mut acted = blank();
-    chain.step(&page_of_one(0, ONE, 1, first), &mut acted);
+    chain.step(&page_of_one(0, &[write(ONE, 1, first)]), &mut acted);
     assert_last(&rt, alloc, &acted, b"r1 r2 feed 0 0 0 0 1 1.1 7 1 5 61")?;
-    chain.step(&page_of_one(1, TWO, 2, second), &mut acted);
+    chain.step(&page_of_one(1, &[write(TWO, 2, second)]), &mut acted);
     let fast = Body::FastRead(FastRead {
         stamp: ONE,
         client: 9,
@@ -139,7 +143,7 @@ fn a_new_tail_declares_its_log(rt: HostRuntime) -> Result<(), Fail> {
     let value = Value::from_slice(b"a").ok_or("a value")?;
     let mut chain = member_of_three(alloc, 1)?;
     let mut acted = blank();
-    chain.step(&page_of_one(0, ONE, 1, value), &mut acted);
+    chain.step(&page_of_one(0, &[write(ONE, 1, value)]), &mut acted);
     let mut members = Members::first(0).ok_or("a member")?;
     members.try_push(1)?;
     let config = Packet {

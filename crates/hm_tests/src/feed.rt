@@ -9,22 +9,25 @@ use hm_packet::body::Feed;
 use hm_shim::shim::Shim;
 use std::test::Fail;
 
-/// A page of one write, in a view that starts with two entries.
-fn page(first: u32, value: Value) -> Feed {
-    let mut entries = Entries::new();
-    let _ = entries.try_push(Entry {
+/// A client's first write.
+fn write(value: Value) -> Entry {
+    Entry {
         stamp: Stamp { switch: 1, seq: 1 },
         client: 7,
         request: 1,
         object: 5,
         act: Act::Put(value),
-    });
+    }
+}
+
+/// A page of one entry, in a view that starts with two entries.
+fn page(first: u32, log: &[Entry; 1]) -> Feed<'_> {
     Feed {
         view: 1,
         start: 2,
         first,
         commit: 0,
-        entries,
+        entries: Entries::of(log),
     }
 }
 
@@ -32,13 +35,14 @@ fn page(first: u32, value: Value) -> Feed {
 fn a_staged_list_becomes_the_log(rt: HostRuntime) -> Result<(), Fail> {
     let alloc = rt.alloc();
     let value = Value::from_slice(b"a").ok_or("a value")?;
+    let log = [write(value)];
     let mut shim = Shim::open(alloc, 16)?;
     let mut follower = Follower::open(alloc, 16)?;
     follower.begin(shim.log(), 0);
     assert!(rt; follower.staging());
-    assert_eq!(rt; follower.take(&mut shim, &page(0, value)), Took::Staged(1));
+    assert_eq!(rt; follower.take(&mut shim, &page(0, &log)), Took::Staged(1));
     assert_eq!(rt; shim.log().len(), 0);
-    assert_eq!(rt; follower.take(&mut shim, &page(1, value)), Took::Adopted(2));
+    assert_eq!(rt; follower.take(&mut shim, &page(1, &log)), Took::Adopted(2));
     assert_eq!(rt; shim.log().len(), 2);
     assert!(rt; !follower.staging());
     Ok(())

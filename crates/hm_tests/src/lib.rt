@@ -28,6 +28,8 @@ mod rows;
 #[cfg(test)]
 mod schedule;
 #[cfg(test)]
+mod sent;
+#[cfg(test)]
 mod shim;
 #[cfg(test)]
 mod show;

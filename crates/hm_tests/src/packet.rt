@@ -1,3 +1,4 @@
+use hm_base::buffer::Text;
 use hm_base::entries::Entries;
 use hm_base::entry::{Act, Entry};
 use hm_base::members::Members;
@@ -17,12 +18,7 @@ use std::test::Fail;
 const ONE: Stamp = Stamp { switch: 1, seq: 1 };
 
 /// Asserts that a packet has this text, and an equal packet too.
-fn assert_text(
-    rt: &impl Abort,
-    out: &mut Vec<u8>,
-    packet: &Packet,
-    text: &[u8],
-) -> Result<(), Fail> {
+fn assert_text(rt: &impl Abort, out: &mut Text, packet: &Packet, text: &[u8]) -> Result<(), Fail> {
     out.clear();
     write_packet(&packet.copy(), out)?;
     assert_eq!(rt; out.as_slice(), text);
@@ -32,7 +28,7 @@ fn assert_text(
 #[test]
 fn writes_requests(rt: HostRuntime) -> Result<(), Fail> {
     let value = Value::from_slice(b"a").ok_or("a value")?;
-    let mut out = Vec::new(rt.alloc());
+    let mut out = Text::new(rt.alloc());
     let write = Packet {
         src: Node::Client(7),
         dst: Node::Switch(1),
@@ -81,7 +77,7 @@ fn writes_requests(rt: HostRuntime) -> Result<(), Fail> {
 #[test]
 fn writes_answers(rt: HostRuntime) -> Result<(), Fail> {
     let value = Value::from_slice(b"a").ok_or("a value")?;
-    let mut out = Vec::new(rt.alloc());
+    let mut out = Text::new(rt.alloc());
     let done = Packet {
         src: Node::Replica(0),
         dst: Node::Switch(1),
@@ -127,16 +123,14 @@ fn writes_answers(rt: HostRuntime) -> Result<(), Fail> {
 #[test]
 fn writes_pages_and_views(rt: HostRuntime) -> Result<(), Fail> {
     let value = Value::from_slice(b"b").ok_or("a value")?;
-    let mut entries = Entries::new();
-    let pushed = entries.try_push(Entry {
+    let log = [Entry {
         stamp: Stamp { switch: 1, seq: 2 },
         client: 7,
         request: 2,
         object: 5,
         act: Act::Put(value),
-    });
-    assert!(&rt; pushed.is_ok());
-    let mut out = Vec::new(rt.alloc());
+    }];
+    let mut out = Text::new(rt.alloc());
     let feed = Packet {
         src: Node::Replica(0),
         dst: Node::Replica(1),
@@ -145,7 +139,7 @@ fn writes_pages_and_views(rt: HostRuntime) -> Result<(), Fail> {
             start: 0,
             first: 1,
             commit: 0,
-            entries,
+            entries: Entries::of(&log),
         }),
     };
     assert_text(&rt, &mut out, &feed, b"r0 r1 feed 0 0 1 0 1 1.2 7 2 5 62")?;
@@ -172,7 +166,7 @@ fn writes_pages_and_views(rt: HostRuntime) -> Result<(), Fail> {
 fn writes_orders_of_the_service(rt: HostRuntime) -> Result<(), Fail> {
     let mut members = Members::first(0).ok_or("a replica")?;
     assert!(&rt; members.try_push(1).is_ok());
-    let mut out = Vec::new(rt.alloc());
+    let mut out = Text::new(rt.alloc());
     let config = Packet {
         src: Node::Config,
         dst: Node::Replica(0),

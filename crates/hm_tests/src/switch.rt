@@ -29,7 +29,7 @@ fn route(view: u32) -> Route {
     }
 }
 
-fn packet(src: Node, body: Body) -> Packet
+fn packet(src: Node, body: Body<'static>) -> Packet<'static>
     requires { IsLawfulNode src }
 {
     Packet {
@@ -39,7 +39,7 @@ fn packet(src: Node, body: Body) -> Packet
     }
 }
 
-fn done(switch: u32, seq: u64) -> Packet {
+fn done(switch: u32, seq: u64) -> Packet<'static> {
     packet(
         Node::Replica(0),
         Body::Done(Done {
@@ -50,7 +50,7 @@ fn done(switch: u32, seq: u64) -> Packet {
     )
 }
 
-fn write(object: u32) -> Packet {
+fn write(object: u32) -> Packet<'static> {
     packet(
         Node::Client(7),
         Body::Write(Write {
@@ -61,7 +61,7 @@ fn write(object: u32) -> Packet {
     )
 }
 
-fn read(object: u32) -> Packet {
+fn read(object: u32) -> Packet<'static> {
     packet(Node::Client(8), Body::Read(Read { request: 1, object }))
 }
 
@@ -80,7 +80,7 @@ fn is_ignored(turn: Turn, why: Why) -> bool {
 }
 
 /// What the packet that was sent is.
-fn sent(turn: Turn) -> Result<Body, Fail> {
+fn sent(turn: Turn) -> Result<Body<'static>, Fail> {
     match turn {
         Turn::Sent(packet) => Ok(packet.body),
         _ => Err("nothing sent")?,

@@ -1,5 +1,5 @@
-use Rattle.std.proofs.Common.{◌≡◌, ◌++◌, take, drop}
+use Rattle.std.proofs.Common.{◌≡◌, ◌++◌, take}
 use Rattle.hm_feed.proofs.follower.extend_list.Given as goal
 
-abbrev pub invariant-loop-i : goal.invariant-loop-i
-invariant-loop-i l = l.list ≡ record l.initial.list { entries = l.initial.list.entries ++ drop l.from (take l.i l.entries) }
+abbrev pub invariant-loop-entry : goal.invariant-loop-entry
+invariant-loop-entry l = l.list ≡ record l.initial.list { entries = l.initial.list.entries ++ take l.entry-index l.entries }
