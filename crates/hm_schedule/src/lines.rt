@@ -101,7 +101,7 @@ impl LineReader {
     }
 
     /// Cuts the line `next` off, if it is ahead with its end. Otherwise nothing changes.
-    pub fn cut_next(&mut self) -> bool
+    pub(crate) fn cut_next(&mut self) -> bool
         ensures cut { IsTrue result → (self.new.line ≡ codes "next") × (self.old.ahead ≡ ended (codes "next") ++ self.new.ahead) }
         ensures whole { (more : List ℕ) → self.old.ahead ≡ ended (codes "next") ++ more → IsTrue result }
         ensures not_cut { IsFalse result → self.new ≡ self.old }
