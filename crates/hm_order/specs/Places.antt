@@ -1,5 +1,5 @@
 -- What the tables of first positions stand for.
-use Rattle.std.specs.Prelude.{◌≡◌, ℕ, ◌+◌, ◌-◌, ◌<◌, ◌≤◌, Bool, true, false, List, [], ◌∷◌, length, drop, filter, nat_eq, Option, Some, None, position, unwrap_or, slice_index, slice_set}
+use Rattle.std.specs.Prelude.{◌≡◌, ℕ, ◌+◌, ◌-◌, ◌<◌, ◌≤◌, min, Bool, true, false, List, [], ◌∷◌, length, drop, filter, nat_eq, Option, Some, None, position, unwrap_or, slice_index, slice_set}
 use Rattle.std.specs.HashMap.{get}
 use Rattle.hm_base.specs.declared.stamp.Stamp.{Stamp}
 use Rattle.hm_order.specs.declared.mark.Mark.{Mark}
@@ -32,6 +32,16 @@ nowhere count = record { invoked = count; committed = count; replied = count }
 abbrev pub noted : ℕ → Option OpPlaces → OpPlaces
 noted count None = nowhere count
 noted count (Some places) = places
+
+-- the places with one mark more, behind the others
+abbrev pub after_invoke : OpPlaces → ℕ → OpPlaces
+after_invoke o place = record o { invoked = min o.invoked place }
+
+abbrev pub after_commit : OpPlaces → ℕ → OpPlaces
+after_commit o place = record o { committed = min o.committed place }
+
+abbrev pub after_reply : OpPlaces → ℕ → OpPlaces
+after_reply o place = record o { replied = min o.replied place }
 
 -- the tables of some first marks of a history, which has so many
 pub record StandsFor (count : ℕ) (places : Places) (marks : List Mark) : Type 0 where

@@ -1,14 +1,12 @@
-ghost use Rattle.std.specs.Prelude.{◌≡◌, Some, None, OnOk, IfOk, if◌then◌else◌, ◌++◌, ◌∷◌, [], length, slice_get, List, unwrap_or, ℕ, ◌+◌, ◌<◌, ◌≤◌, min};
+ghost use Rattle.std.specs.Prelude.{◌≡◌, Some, None, OnOk, IfOk, if◌then◌else◌, ◌++◌, ◌∷◌, [], length, slice_get, List, unwrap_or, ◌+◌, ◌<◌, ◌≤◌};
 ghost use Rattle.std.specs.HashMap.{get};
 ghost use Rattle.hm_order.specs.declared.mark.Mark.{Mark};
 ghost use Rattle.hm_order.specs.declared.mark.Mark.TheVariants.{Invoke};
 ghost use Rattle.hm_order.specs.declared.mark.Want.{Want};
 ghost use Rattle.hm_base.specs.declared.operation.OpId.{OpId};
-ghost use Rattle.hm_base.specs.declared.stamp.Stamp.{Stamp};
-ghost use Rattle.hm_base.specs.Stamps.{same_stamp};
-ghost use Rattle.hm_order.specs.Marks.{At, same_op, version_at, version_in, want_of};
+ghost use Rattle.hm_order.specs.Marks.{At, version_at, version_in, want_of};
 ghost use Rattle.hm_order.specs.Order.{read_place, reads_after, commit_here, order};
-ghost use Rattle.hm_order.specs.Places.{kept, nowhere, noted, StandsFor, ArePlaces, is_read, PutsInFront, AreBehind};
+ghost use Rattle.hm_order.specs.Places.{kept, nowhere, noted, after_invoke, after_commit, after_reply, StandsFor, ArePlaces, is_read, PutsInFront, AreBehind};
 
 use crate::mark::{Mark, Want};
 use hm_base::memory::NoMemory;
@@ -59,7 +57,7 @@ fn note_invoke<K: Hash + Eq + Drop>(
     place: usize,
     count: usize,
 ) -> Result<(), NoMemory>
-    ensures { OnOk result ((q : K) → get K.eq ops.new q ≡ (if K.eq q op then Some (let o = noted count (get K.eq ops.old q) in record { invoked = min o.invoked place; committed = o.committed; replied = o.replied }) else get K.eq ops.old q)) }
+    ensures { OnOk result ((q : K) → get K.eq ops.new q ≡ (if K.eq q op then Some (after_invoke (noted count (get K.eq ops.old q)) place) else get K.eq ops.old q)) }
 {
     let noted = ops.entry(op)?.or_insert(nowhere(count));
     noted.invoked = noted.invoked.min(place);
@@ -73,7 +71,7 @@ fn note_commit<K: Hash + Eq + Drop>(
     place: usize,
     count: usize,
 ) -> Result<(), NoMemory>
-    ensures { OnOk result ((q : K) → get K.eq ops.new q ≡ (if K.eq q op then Some (let o = noted count (get K.eq ops.old q) in record { invoked = o.invoked; committed = min o.committed place; replied = o.replied }) else get K.eq ops.old q)) }
+    ensures { OnOk result ((q : K) → get K.eq ops.new q ≡ (if K.eq q op then Some (after_commit (noted count (get K.eq ops.old q)) place) else get K.eq ops.old q)) }
 {
     let noted = ops.entry(op)?.or_insert(nowhere(count));
     noted.committed = noted.committed.min(place);
@@ -87,7 +85,7 @@ fn note_reply<K: Hash + Eq + Drop>(
     place: usize,
     count: usize,
 ) -> Result<(), NoMemory>
-    ensures { OnOk result ((q : K) → get K.eq ops.new q ≡ (if K.eq q op then Some (let o = noted count (get K.eq ops.old q) in record { invoked = o.invoked; committed = o.committed; replied = min o.replied place }) else get K.eq ops.old q)) }
+    ensures { OnOk result ((q : K) → get K.eq ops.new q ≡ (if K.eq q op then Some (after_reply (noted count (get K.eq ops.old q)) place) else get K.eq ops.old q)) }
 {
     let noted = ops.entry(op)?.or_insert(nowhere(count));
     noted.replied = noted.replied.min(place);
@@ -106,7 +104,7 @@ fn note_version<K: Hash + Eq + Drop>(
     Ok(())
 }
 
-/// Room for this many marks, of which few are of one op.
+/// No places, with room for those of so many marks, where each op has two of them and each stamp stands in one of four.
 fn none_yet(alloc: Global, count: usize) -> Result<Places, NoMemory>
     ensures { IfOk result (λ places. StandsFor count places []) }
 {
