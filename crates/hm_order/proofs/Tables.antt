@@ -1,11 +1,10 @@
 -- What the tables of first positions answer.
-use Rattle.std.proofs.Common.{◌≡◌, ℕ, ◌+◌, ◌<◌, ◌≤◌, Bool, false, cond, List, [], ◌∷◌, ◌++◌, length, Option, Some, None, refl, sym, ap, subst, ◌∙◌, arith, inl, inr, unwrap_or, take, get_or, append_assoc}
-use Rattle.std.specs.Prelude.{nat_eq, nat_lt, position, filter, Vec}
+use Rattle.std.proofs.Common.{◌≡◌, ℕ, ◌+◌, ◌<◌, ◌≤◌, Bool, true, false, cond, List, [], ◌∷◌, ◌++◌, length, Option, Some, None, refl, sym, ap, subst, ◌∙◌, arith, inl, inr, unwrap_or}
+use Rattle.std.specs.Prelude.{min, nat_eq, nat_lt, position}
 use Rattle.std.specs.List.{position_or_len}
 use Rattle.std.specs.HashMap.{get}
 use Rattle.std.proofs.lemmas.Bool.{cases_lt, cases_Bool, lt-ltb, le-ltb, cond-true, cond-false, eq-eqb, ne_eqb}
 use Rattle.std.proofs.lemmas.List.{length_push}
-use Rattle.std.proofs.lemmas.List.Elements.{filter-append}
 use Rattle.std.proofs.lemmas.List.Folds.{position_or_len_push}
 use Rattle.hm_base.specs.declared.stamp.Stamp.{Stamp}
 use Rattle.hm_order.specs.declared.mark.Mark.{Mark}
@@ -14,11 +13,10 @@ use Rattle.hm_base.specs.declared.operation.OpId.{OpId}
 use Rattle.hm_order.specs.declared.mark.Want.{Want}
 use Rattle.hm_base.specs.declared.operation.Answer.{Answer}
 use Rattle.hm_order.specs.declared.places.Places.{Places}
+use Rattle.hm_order.specs.declared.places.OpPlaces.{OpPlaces}
 use Rattle.hm_base.specs.Stamps.{same_stamp}
-use Rattle.hm_order.specs.Marks.{same_op, invokes, commits, commits_with, replies, invoked_at}
-use Rattle.hm_order.specs.Order.{read_place, invoke_here, reads_after, commit_here, stands_here, gather}
-use Rattle.hm_order.specs.Places.{kept, StandsFor, Puts, AreBehind}
-use Rattle.hm_order.proofs.Gathered.{gather_more}
+use Rattle.hm_order.specs.Marks.{same_op, invokes, commits, commits_with, replies}
+use Rattle.hm_order.specs.Places.{kept, noted, after_invoke, after_commit, after_reply, StandsFor, ArePlaces}
 
 pub first_within : {A : Type 0} (p : A → Bool) (xs : List A) → position_or_len p xs ≤ length xs
 first_within p [] = omega arith
@@ -71,69 +69,91 @@ kept_none : (o : Option ℕ) → kept o None ≡ o
 kept_none None = refl
 kept_none (Some place) = refl
 
-noted : {A : Type 0} (p : A → Bool) (xs : List A) (x : A) (place : ℕ) (before after : Option ℕ) → before ≡ position p xs → length xs ≡ place → after ≡ kept before (cond (p x) (Some place) None) → after ≡ position p (xs ++ x ∷ [])
-noted p xs x place before after e n k = k ∙ ap (λ (o : Option ℕ). kept o (cond (p x) (Some place) None)) e ∙ ap (λ (m : ℕ). kept (position p xs) (cond (p x) (Some m) None)) (sym n) ∙ sym (position_more p xs x)
+place_noted : {A : Type 0} (p : A → Bool) (xs : List A) (x : A) (place : ℕ) (before after : Option ℕ) → before ≡ position p xs → length xs ≡ place → after ≡ kept before (cond (p x) (Some place) None) → after ≡ position p (xs ++ x ∷ [])
+place_noted p xs x place before after e n k = k ∙ ap (λ (o : Option ℕ). kept o (cond (p x) (Some place) None)) e ∙ ap (λ (m : ℕ). kept (position p xs) (cond (p x) (Some m) None)) (sym n) ∙ sym (position_more p xs x)
 
 unnoted : {A : Type 0} (p : A → Bool) (xs : List A) (x : A) (before after : Option ℕ) → p x ≡ false → before ≡ position p xs → after ≡ before → after ≡ position p (xs ++ x ∷ [])
 unnoted p xs x before after t e k = k ∙ e ∙ sym (position_more p xs x ∙ ap (λ (o : Option ℕ). kept (position p xs) o) (cond-false (p x) (Some (length xs)) None t) ∙ kept_none (position p xs))
 
-pub more_invoke : (old new : Places) (marks : List Mark) (op : OpId) (want : Want) (place : ℕ) → StandsFor old marks → length marks ≡ place
-    → ((q : OpId) → get same_op new.invoked q ≡ kept (get same_op old.invoked q) (cond (same_op q op) (Some place) None))
-    → ((q : OpId) → get same_op new.committed q ≡ get same_op old.committed q) → ((q : OpId) → get same_op new.replied q ≡ get same_op old.replied q) → ((q : Stamp) → get same_stamp new.versions q ≡ get same_stamp old.versions q)
-    → (mark : Mark) → mark ≡ Invoke op want → StandsFor new (marks ++ mark ∷ [])
-more_invoke old new marks op want place h n i c r v mark is = subst (λ (m : Mark). StandsFor new (marks ++ m ∷ [])) (sym is) (let whole : StandsFor new (marks ++ Invoke op want ∷ []) = record {
-  invoked = λ q. noted (invokes q) marks (Invoke op want) place _ _ (h.invoked q) n (i q);
-  committed = λ q. unnoted (commits q) marks (Invoke op want) _ _ refl (h.committed q) (c q);
-  replied = λ q. unnoted (replies q) marks (Invoke op want) _ _ refl (h.replied q) (r q);
+-- ---- one more mark in the tables
+
+least_more : {A : Type 0} (p : A → Bool) (xs : List A) (n : ℕ) → length xs < n → unwrap_or (kept (position p xs) (Some (length xs))) n ≡ min (unwrap_or (position p xs) n) (length xs)
+least_more p xs n few = elim (cases_lt (position_or_len p xs) (length xs)) [
+  | inl l ↦
+      ap (λ (o : Option ℕ). unwrap_or (kept o (Some (length xs))) n) (position_at p xs l)
+      ∙ (let least : position_or_len p xs ≡ min (position_or_len p xs) (length xs) = omega arith in least)
+      ∙ sym (ap (λ (o : Option ℕ). min (unwrap_or o n) (length xs)) (position_at p xs l))
+  | inr l ↦
+      ap (λ (o : Option ℕ). unwrap_or (kept o (Some (length xs))) n) (position_none p xs l)
+      ∙ (let least : length xs ≡ min n (length xs) = omega arith in least)
+      ∙ sym (ap (λ (o : Option ℕ). min (unwrap_or o n) (length xs)) (position_none p xs l))
+]
+
+-- a part of what is noted of an op, where the mark is one of that kind
+part_noted : {A : Type 0} (p : A → Bool) (xs : List A) (x : A) (n place : ℕ) (part : OpPlaces → ℕ) (before after : Option OpPlaces) (change : OpPlaces)
+    → length xs ≡ place → place < n → part (noted n before) ≡ unwrap_or (position p xs) n → after ≡ cond (p x) (Some change) before → part change ≡ min (part (noted n before)) place
+    → part (noted n after) ≡ unwrap_or (position p (xs ++ x ∷ [])) n
+part_noted p xs x n place part before after change size few was is new = elim (cases_Bool (p x)) [
+  | inl t ↦
+      ap (λ (o : Option OpPlaces). part (noted n o)) (is ∙ cond-true (p x) (Some change) before t)
+      ∙ new ∙ ap (λ (k : ℕ). min k place) was ∙ ap (λ (k : ℕ). min (unwrap_or (position p xs) n) k) (sym size)
+      ∙ sym (ap (λ (o : Option ℕ). unwrap_or o n) (position_more p xs x ∙ ap (λ (o : Option ℕ). kept (position p xs) o) (cond-true (p x) (Some (length xs)) None t)) ∙ least_more p xs n (omega arith))
+  | inr t ↦
+      ap (λ (o : Option OpPlaces). part (noted n o)) (is ∙ cond-false (p x) (Some change) before t)
+      ∙ was
+      ∙ sym (ap (λ (o : Option ℕ). unwrap_or o n) (position_more p xs x ∙ ap (λ (o : Option ℕ). kept (position p xs) o) (cond-false (p x) (Some (length xs)) None t) ∙ kept_none (position p xs)))
+]
+
+-- the same where the mark is of another kind
+part_kept : {A : Type 0} (p : A → Bool) (xs : List A) (x : A) (n : ℕ) (part : OpPlaces → ℕ) (b : Bool) (before after : Option OpPlaces) (change : OpPlaces)
+    → p x ≡ false → part (noted n before) ≡ unwrap_or (position p xs) n → after ≡ cond b (Some change) before → part change ≡ part (noted n before)
+    → part (noted n after) ≡ unwrap_or (position p (xs ++ x ∷ [])) n
+part_kept p xs x n part b before after change other was is new =
+    let then : part (noted n after) ≡ part (noted n before) = ap (λ (o : Option OpPlaces). part (noted n o)) is ∙ kept_if b before change new in
+    then ∙ was
+    ∙ sym (ap (λ (o : Option ℕ). unwrap_or o n) (position_more p xs x ∙ ap (λ (o : Option ℕ). kept (position p xs) o) (cond-false (p x) (Some (length xs)) None other) ∙ kept_none (position p xs)))
+  where
+    kept_if : (b : Bool) (o : Option OpPlaces) (change : OpPlaces) → part change ≡ part (noted n o) → part (noted n (cond b (Some change) o)) ≡ part (noted n o)
+    kept_if true o change new = new
+    kept_if false o change new = refl
+
+pub more_invoke : (n : ℕ) (old new : Places) (marks : List Mark) (op : OpId) (want : Want) (place : ℕ) → StandsFor n old marks → length marks ≡ place → place < n
+    → ((q : OpId) → get same_op new.ops q ≡ cond (same_op q op) (Some (after_invoke (noted n (get same_op old.ops q)) place)) (get same_op old.ops q))
+    → ((q : Stamp) → get same_stamp new.versions q ≡ get same_stamp old.versions q)
+    → (mark : Mark) → mark ≡ Invoke op want → StandsFor n new (marks ++ mark ∷ [])
+more_invoke n old new marks op want place h size few notes v mark is = subst (λ (m : Mark). StandsFor n new (marks ++ m ∷ [])) (sym is) (let whole : StandsFor n new (marks ++ Invoke op want ∷ []) = record {
+  invoked = λ q. part_noted (invokes q) marks (Invoke op want) n place (λ o. o.invoked) _ _ _ size few (h.invoked q) (notes q) refl;
+  committed = λ q. part_kept (commits q) marks (Invoke op want) n (λ o. o.committed) (same_op q op) _ _ _ refl (h.committed q) (notes q) refl;
+  replied = λ q. part_kept (replies q) marks (Invoke op want) n (λ o. o.replied) (same_op q op) _ _ _ refl (h.replied q) (notes q) refl;
   versions = λ q. unnoted (commits_with q) marks (Invoke op want) _ _ refl (h.versions q) (v q);
 } in whole)
 
-pub more_commit : (old new : Places) (marks : List Mark) (op : OpId) (stamp : Stamp) (place : ℕ) → StandsFor old marks → length marks ≡ place
-    → ((q : OpId) → get same_op new.invoked q ≡ get same_op old.invoked q)
-    → ((q : OpId) → get same_op new.committed q ≡ kept (get same_op old.committed q) (cond (same_op q op) (Some place) None)) → ((q : OpId) → get same_op new.replied q ≡ get same_op old.replied q)
+pub more_commit : (n : ℕ) (old new : Places) (marks : List Mark) (op : OpId) (stamp : Stamp) (place : ℕ) → StandsFor n old marks → length marks ≡ place → place < n
+    → ((q : OpId) → get same_op new.ops q ≡ cond (same_op q op) (Some (after_commit (noted n (get same_op old.ops q)) place)) (get same_op old.ops q))
     → ((q : Stamp) → get same_stamp new.versions q ≡ kept (get same_stamp old.versions q) (cond (same_stamp q stamp) (Some place) None))
-    → (mark : Mark) → mark ≡ Commit op stamp → StandsFor new (marks ++ mark ∷ [])
-more_commit old new marks op stamp place h n i c r v mark is = subst (λ (m : Mark). StandsFor new (marks ++ m ∷ [])) (sym is) (let whole : StandsFor new (marks ++ Commit op stamp ∷ []) = record {
-  invoked = λ q. unnoted (invokes q) marks (Commit op stamp) _ _ refl (h.invoked q) (i q);
-  committed = λ q. noted (commits q) marks (Commit op stamp) place _ _ (h.committed q) n (c q);
-  replied = λ q. unnoted (replies q) marks (Commit op stamp) _ _ refl (h.replied q) (r q);
-  versions = λ q. noted (commits_with q) marks (Commit op stamp) place _ _ (h.versions q) n (v q);
+    → (mark : Mark) → mark ≡ Commit op stamp → StandsFor n new (marks ++ mark ∷ [])
+more_commit n old new marks op stamp place h size few notes v mark is = subst (λ (m : Mark). StandsFor n new (marks ++ m ∷ [])) (sym is) (let whole : StandsFor n new (marks ++ Commit op stamp ∷ []) = record {
+  invoked = λ q. part_kept (invokes q) marks (Commit op stamp) n (λ o. o.invoked) (same_op q op) _ _ _ refl (h.invoked q) (notes q) refl;
+  committed = λ q. part_noted (commits q) marks (Commit op stamp) n place (λ o. o.committed) _ _ _ size few (h.committed q) (notes q) refl;
+  replied = λ q. part_kept (replies q) marks (Commit op stamp) n (λ o. o.replied) (same_op q op) _ _ _ refl (h.replied q) (notes q) refl;
+  versions = λ q. place_noted (commits_with q) marks (Commit op stamp) place _ _ (h.versions q) size (v q);
 } in whole)
 
-pub more_reply : (old new : Places) (marks : List Mark) (op : OpId) (version : Stamp) (answer : Answer) (place : ℕ) → StandsFor old marks → length marks ≡ place
-    → ((q : OpId) → get same_op new.invoked q ≡ get same_op old.invoked q) → ((q : OpId) → get same_op new.committed q ≡ get same_op old.committed q)
-    → ((q : OpId) → get same_op new.replied q ≡ kept (get same_op old.replied q) (cond (same_op q op) (Some place) None)) → ((q : Stamp) → get same_stamp new.versions q ≡ get same_stamp old.versions q)
-    → (mark : Mark) → mark ≡ Reply op version answer → StandsFor new (marks ++ mark ∷ [])
-more_reply old new marks op version answer place h n i c r v mark is = subst (λ (m : Mark). StandsFor new (marks ++ m ∷ [])) (sym is) (let whole : StandsFor new (marks ++ Reply op version answer ∷ []) = record {
-  invoked = λ q. unnoted (invokes q) marks (Reply op version answer) _ _ refl (h.invoked q) (i q);
-  committed = λ q. unnoted (commits q) marks (Reply op version answer) _ _ refl (h.committed q) (c q);
-  replied = λ q. noted (replies q) marks (Reply op version answer) place _ _ (h.replied q) n (r q);
+pub more_reply : (n : ℕ) (old new : Places) (marks : List Mark) (op : OpId) (version : Stamp) (answer : Answer) (place : ℕ) → StandsFor n old marks → length marks ≡ place → place < n
+    → ((q : OpId) → get same_op new.ops q ≡ cond (same_op q op) (Some (after_reply (noted n (get same_op old.ops q)) place)) (get same_op old.ops q))
+    → ((q : Stamp) → get same_stamp new.versions q ≡ get same_stamp old.versions q)
+    → (mark : Mark) → mark ≡ Reply op version answer → StandsFor n new (marks ++ mark ∷ [])
+more_reply n old new marks op version answer place h size few notes v mark is = subst (λ (m : Mark). StandsFor n new (marks ++ m ∷ [])) (sym is) (let whole : StandsFor n new (marks ++ Reply op version answer ∷ []) = record {
+  invoked = λ q. part_kept (invokes q) marks (Reply op version answer) n (λ o. o.invoked) (same_op q op) _ _ _ refl (h.invoked q) (notes q) refl;
+  committed = λ q. part_kept (commits q) marks (Reply op version answer) n (λ o. o.committed) (same_op q op) _ _ _ refl (h.committed q) (notes q) refl;
+  replied = λ q. part_noted (replies q) marks (Reply op version answer) n place (λ o. o.replied) _ _ _ size few (h.replied q) (notes q) refl;
   versions = λ q. unnoted (commits_with q) marks (Reply op version answer) _ _ refl (h.versions q) (v q);
 } in whole)
 
--- ---- the lists behind the marks
-
-pub puts_same : {A Z : Type 0} (old new : List (Vec A Z)) (f g : ℕ → List A) → ((j : ℕ) → f j ≡ g j) → Puts old new f → Puts old new g
-puts_same old new f g e h = record { long = h.long; grew = λ j d l. h.grew j d l ∙ ap (λ x. (get_or old j d).items ++ x) (e j) }
-
-pub given_here : (h : List Mark) (op : OpId) (want : Want) (mark : Mark) (place i j : ℕ) → place ≡ read_place h op → invoked_at h op ≡ i → mark ≡ Invoke op want
-    → cond (nat_eq place (j + 1)) (op ∷ []) [] ≡ filter (λ o. nat_eq (read_place h o) (j + 1)) (invoke_here h i mark)
-given_here h op want mark place i j p e is =
-    ap (λ (n : ℕ). cond (nat_eq n (j + 1)) (op ∷ []) []) p
-    ∙ sym (ap (λ (l : List OpId). filter (λ o. nat_eq (read_place h o) (j + 1)) l) (ap (λ (m : Mark). invoke_here h i m) is ∙ cond-true (nat_eq (invoked_at h op) i) (op ∷ []) [] (eq-eqb _ _ e)))
-
-pub behind_more : {Z : Type 0} (h : List Mark) (i : ℕ) (mark : Mark) (old new : List (Vec OpId Z)) → i < length h → mark ≡ get_or h i mark → AreBehind h (take i h) old
-    → Puts old new (λ j. filter (λ op. nat_eq (read_place h op) (j + 1)) (invoke_here h i mark)) → AreBehind h (take (i + 1) h) new
-behind_more h i mark old new l e b p = record {
-  long = p.long ∙ b.long;
-  reads = λ j d less. p.grew j d (let n : length old ≡ length h = b.long in omega arith)
-      ∙ ap (λ x. x ++ filter (λ op. nat_eq (read_place h op) (j + 1)) (invoke_here h i mark)) (b.reads j d less)
-      ∙ sym (ap (λ x. filter (λ op. nat_eq (read_place h op) (j + 1)) x) (gather_more (invoke_here h) h i mark l e) ∙ filter-append (λ op. nat_eq (read_place h op) (j + 1)) (gather (invoke_here h) 0 (take i h)) (invoke_here h i mark));
+-- what is noted at the end
+pub op_placed : (h : List Mark) (places : Places) (op : OpId) (r : OpPlaces) → StandsFor (length h) places h → r ≡ noted (length h) (get same_op places.ops op) → ArePlaces r h op
+op_placed h places op r stands is = record {
+  invoked = ap (λ (o : OpPlaces). o.invoked) is ∙ stands.invoked op ∙ looked_up (invokes op) h;
+  committed = ap (λ (o : OpPlaces). o.committed) is ∙ stands.committed op ∙ looked_up (commits op) h;
+  replied = ap (λ (o : OpPlaces). o.replied) is ∙ stands.replied op ∙ looked_up (replies op) h;
 }
-
--- the order, one mark further
-pub order_more : {Z : Type 0} (h : List Mark) (i : ℕ) (mark : Mark) (behind : List (Vec OpId Z)) (d : Vec OpId Z) (old ops new : List OpId) → i < length h → mark ≡ get_or h i mark → AreBehind h h behind
-    → old ≡ gather (stands_here h) 0 (take i h) → ops ≡ old ++ commit_here h i mark → new ≡ ops ++ (get_or behind i d).items → new ≡ gather (stands_here h) 0 (take (i + 1) h)
-order_more h i mark behind d old ops new l e b o p q =
-    q ∙ ap (λ x. ops ++ x) (b.reads i d l) ∙ ap (λ x. x ++ reads_after h (i + 1)) p ∙ append_assoc old (commit_here h i mark) (reads_after h (i + 1))
-    ∙ ap (λ x. x ++ (commit_here h i mark ++ reads_after h (i + 1))) o ∙ sym (gather_more (stands_here h) h i mark l e)

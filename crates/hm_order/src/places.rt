@@ -1,10 +1,12 @@
-ghost use Rattle.std.specs.Prelude.{◌≡◌, Some, None, OnOk, IfOk, if◌then◌else◌, ◌++◌, ◌∷◌, [], length, slice_get, List, unwrap_or, filter, nat_eq, ℕ, ◌+◌, ◌<◌, ◌≤◌};
+ghost use Rattle.std.specs.Prelude.{◌≡◌, Some, None, OnOk, IfOk, if◌then◌else◌, ◌++◌, ◌∷◌, [], length, slice_get, List, unwrap_or, ◌+◌, ◌<◌, ◌≤◌};
 ghost use Rattle.std.specs.HashMap.{get};
 ghost use Rattle.hm_order.specs.declared.mark.Mark.{Mark};
+ghost use Rattle.hm_order.specs.declared.mark.Mark.TheVariants.{Invoke};
+ghost use Rattle.hm_order.specs.declared.mark.Want.{Want};
 ghost use Rattle.hm_base.specs.declared.operation.OpId.{OpId};
-ghost use Rattle.hm_order.specs.Marks.{invoked_at, committed_at, replied_at, version_at, version_in, want_in};
-ghost use Rattle.hm_order.specs.Order.{read_place, invoke_here, commit_here, order};
-ghost use Rattle.hm_order.specs.Places.{kept, StandsFor, is_read, Puts, AreBehind};
+ghost use Rattle.hm_order.specs.Marks.{At, version_at, version_in, want_of};
+ghost use Rattle.hm_order.specs.Order.{read_place, reads_after, commit_here, order};
+ghost use Rattle.hm_order.specs.Places.{kept, nowhere, noted, after_invoke, after_commit, after_reply, StandsFor, ArePlaces, is_read, PutsInFront, AreBehind};
 
 use crate::mark::{Mark, Want};
 use hm_base::memory::NoMemory;
@@ -14,59 +16,125 @@ use std::alloc::Global;
 use std::collections::HashMap;
 use std::hash::Hash;
 
-/// The position of each op's first mark of each kind, and of each stamp's first Commit.
+/// The position of an op's first mark of each kind, or the number of all marks where there is none.
+#[derive(Clone, Copy, Debug, PartialEq, Eq)]
+pub struct OpPlaces {
+    pub invoked: usize,
+    pub committed: usize,
+    pub replied: usize,
+}
+
+/// The places of each op, and the position of each stamp's first Commit.
 #[derive(Drop)]
 pub struct Places {
-    pub invoked: HashMap<OpId, usize>,
-    pub committed: HashMap<OpId, usize>,
-    pub replied: HashMap<OpId, usize>,
+    pub ops: HashMap<OpId, OpPlaces>,
     pub versions: HashMap<Stamp, usize>,
 }
 
-/// Notes the place under the key, if none stands there.
-fn note<K: Hash + Eq + Drop>(
-    places: &mut HashMap<K, usize>,
-    key: K,
-    place: usize,
-) -> Result<(), NoMemory>
-    ensures { OnOk result ((q : K) → get K.eq places.new q ≡ kept (get K.eq places.old q) (if K.eq q key then Some place else None)) }
+/// The reads behind each mark: the mark that invokes the first of them, and for each such mark the one that invokes the next.
+/// The number of all marks stands for none.
+#[derive(Drop)]
+pub struct Behind {
+    pub heads: Vec<usize>,
+    pub nexts: Vec<usize>,
+}
+
+/// The places of an op without a mark.
+fn nowhere(count: usize) -> OpPlaces
+    ensures { result ≡ nowhere count }
 {
-    places.entry(key)?.or_insert(place);
+    OpPlaces {
+        invoked: count,
+        committed: count,
+        replied: count,
+    }
+}
+
+/// Notes an Invoke of the op.
+fn note_invoke<K: Hash + Eq + Drop>(
+    ops: &mut HashMap<K, OpPlaces>,
+    op: K,
+    place: usize,
+    count: usize,
+) -> Result<(), NoMemory>
+    ensures { OnOk result ((q : K) → get K.eq ops.new q ≡ (if K.eq q op then Some (after_invoke (noted count (get K.eq ops.old q)) place) else get K.eq ops.old q)) }
+{
+    let noted = ops.entry(op)?.or_insert(nowhere(count));
+    noted.invoked = noted.invoked.min(place);
     Ok(())
 }
 
-fn none_yet(alloc: Global) -> Places
-    ensures { StandsFor result [] }
+/// Notes a Commit of the op.
+fn note_commit<K: Hash + Eq + Drop>(
+    ops: &mut HashMap<K, OpPlaces>,
+    op: K,
+    place: usize,
+    count: usize,
+) -> Result<(), NoMemory>
+    ensures { OnOk result ((q : K) → get K.eq ops.new q ≡ (if K.eq q op then Some (after_commit (noted count (get K.eq ops.old q)) place) else get K.eq ops.old q)) }
 {
-    Places {
-        invoked: HashMap::new(alloc),
-        committed: HashMap::new(alloc),
-        replied: HashMap::new(alloc),
-        versions: HashMap::new(alloc),
-    }
+    let noted = ops.entry(op)?.or_insert(nowhere(count));
+    noted.committed = noted.committed.min(place);
+    Ok(())
+}
+
+/// Notes a Reply to the op.
+fn note_reply<K: Hash + Eq + Drop>(
+    ops: &mut HashMap<K, OpPlaces>,
+    op: K,
+    place: usize,
+    count: usize,
+) -> Result<(), NoMemory>
+    ensures { OnOk result ((q : K) → get K.eq ops.new q ≡ (if K.eq q op then Some (after_reply (noted count (get K.eq ops.old q)) place) else get K.eq ops.old q)) }
+{
+    let noted = ops.entry(op)?.or_insert(nowhere(count));
+    noted.replied = noted.replied.min(place);
+    Ok(())
+}
+
+/// Notes a Commit with the stamp.
+fn note_version<K: Hash + Eq + Drop>(
+    versions: &mut HashMap<K, usize>,
+    stamp: K,
+    place: usize,
+) -> Result<(), NoMemory>
+    ensures { OnOk result ((q : K) → get K.eq versions.new q ≡ kept (get K.eq versions.old q) (if K.eq q stamp then Some place else None)) }
+{
+    versions.entry(stamp)?.or_insert(place);
+    Ok(())
+}
+
+/// No places, with room for those of so many marks, where each op has two of them and each stamp stands in one of four.
+fn none_yet(alloc: Global, count: usize) -> Result<Places, NoMemory>
+    ensures { IfOk result (λ places. StandsFor count places []) }
+{
+    Ok(Places {
+        ops: HashMap::with_capacity(alloc, count / 2)?,
+        versions: HashMap::with_capacity(alloc, count / 4)?,
+    })
 }
 
 /// Notes one more mark.
-fn note_mark(places: &mut Places, mark: &Mark, place: usize) -> Result<(), NoMemory>
-    ensures { OnOk result ((marks : List Mark) → StandsFor places.old marks → length marks ≡ place → StandsFor places.new (marks ++ mark.now ∷ [])) }
+fn note_mark(places: &mut Places, mark: &Mark, place: usize, count: usize) -> Result<(), NoMemory>
+    requires { place < count }
+    ensures { OnOk result ((marks : List Mark) → StandsFor count places.old marks → length marks ≡ place → StandsFor count places.new (marks ++ mark.now ∷ [])) }
 {
     match mark {
-        Mark::Invoke { op, .. } => note(&mut places.invoked, *op, place)?,
+        Mark::Invoke { op, .. } => note_invoke(&mut places.ops, *op, place, count),
         Mark::Commit { op, stamp } => {
-            note(&mut places.committed, *op, place)?;
-            note(&mut places.versions, *stamp, place)?;
+            note_commit(&mut places.ops, *op, place, count)?;
+            note_version(&mut places.versions, *stamp, place)
         }
-        Mark::Reply { op, .. } => note(&mut places.replied, *op, place)?,
+        Mark::Reply { op, .. } => note_reply(&mut places.ops, *op, place, count),
     }
-    Ok(())
 }
 
 fn places_of(alloc: Global, marks: &[Mark]) -> Result<Places, NoMemory>
-    ensures { IfOk result (λ places. StandsFor places marks.now) }
+    ensures { IfOk result (λ places. StandsFor (length marks.now) places marks.now) }
 {
-    let mut places = none_yet(alloc);
+    let mut places = none_yet(alloc, marks.len())?;
     for (i, mark) in marks.iter().enumerate() {
-        note_mark(&mut places, mark, i)?;
+        note_mark(&mut places, mark, i, marks.len())?;
     }
     Ok(places)
 }
@@ -81,53 +149,25 @@ fn version_there(marks: &[Mark], i: usize) -> Option<Stamp>
     }
 }
 
-/// Whether an Invoke of a read stands at i.
-fn asks_to_read(marks: &[Mark], i: usize) -> bool
-    ensures { result ≡ is_read (want_in (slice_get marks.now i)) }
-{
-    match marks.get(i) {
-        Some(
-            Mark::Invoke {
-                want: Want::Read { .. },
-                ..
-            },
-        ) => true,
-        _ => false,
-    }
-}
-
 fn place_in<K: Hash + Eq>(places: &HashMap<K, usize>, key: &K, none: usize) -> usize
     ensures { result ≡ unwrap_or (get K.eq places.now key.now) none }
 {
     places.get(key).copied().unwrap_or(none)
 }
 
-fn place_of_invoke(marks: &[Mark], places: &Places, op: OpId) -> usize
-    requires { StandsFor places.now marks.now }
-    ensures first { result ≡ invoked_at marks.now op }
-    ensures within { result ≤ length marks.now }
+/// Where the op's first marks stand.
+fn op_places(marks: &[Mark], places: &Places, op: OpId) -> OpPlaces
+    requires { StandsFor (length marks.now) places.now marks.now }
+    ensures { ArePlaces result marks.now op }
 {
-    place_in(&places.invoked, &op, marks.len())
-}
-
-fn place_of_commit(marks: &[Mark], places: &Places, op: OpId) -> usize
-    requires { StandsFor places.now marks.now }
-    ensures first { result ≡ committed_at marks.now op }
-    ensures within { result ≤ length marks.now }
-{
-    place_in(&places.committed, &op, marks.len())
-}
-
-fn place_of_reply(marks: &[Mark], places: &Places, op: OpId) -> usize
-    requires { StandsFor places.now marks.now }
-    ensures first { result ≡ replied_at marks.now op }
-    ensures within { result ≤ length marks.now }
-{
-    place_in(&places.replied, &op, marks.len())
+    match places.ops.get(&op) {
+        Some(found) => *found,
+        None => nowhere(marks.len()),
+    }
 }
 
 fn place_of_version(marks: &[Mark], places: &Places, version: Stamp) -> usize
-    requires { StandsFor places.now marks.now }
+    requires { StandsFor (length marks.now) places.now marks.now }
     ensures first { result ≡ version_at marks.now version }
     ensures within { result ≤ length marks.now }
 {
@@ -137,67 +177,70 @@ fn place_of_version(marks: &[Mark], places: &Places, version: Stamp) -> usize
     place_in(&places.versions, &version, marks.len())
 }
 
-/// After how many marks the op stands as a read.
-fn place_of_read(marks: &[Mark], places: &Places, op: OpId) -> usize
-    requires { StandsFor places.now marks.now }
-    ensures { result ≡ read_place marks.now op }
+/// After how many marks an op stands as a read, whose first marks stand there.
+fn place_of_read(marks: &[Mark], places: &Places, found: OpPlaces, wants_read: bool) -> usize
+    requires stands { StandsFor (length marks.now) places.now marks.now }
+    requires within { found.invoked ≤ length marks.now }
+    ensures place { (op : OpId) → ArePlaces found marks.now op → wants_read ≡ is_read (want_of marks.now op) → result ≡ read_place marks.now op }
+    ensures some { 0 < result }
 {
     let none = marks.len() + 1;
-    if place_of_commit(marks, places, op) < marks.len() {
+    if found.committed < marks.len() || !wants_read {
         return none;
     }
-    let invoked = place_of_invoke(marks, places, op);
-    if !asks_to_read(marks, invoked) {
-        return none;
-    }
-    let replied = place_of_reply(marks, places, op);
-    match version_there(marks, replied) {
+    match version_there(marks, found.replied) {
         None => none,
-        Some(version) => invoked.max(place_of_version(marks, places, version)) + 1,
+        Some(version) => found.invoked.max(place_of_version(marks, places, version)) + 1,
     }
 }
 
-/// Puts the op behind that many marks, if there are so many.
-fn put_behind(behind: &mut Vec<Vec<OpId>>, place: usize, op: OpId) -> Result<(), NoMemory>
-    requires { 0 < place }
-    ensures { OnOk result (Puts behind.old.items behind.new.items (λ j. if nat_eq place (j + 1) then op ∷ [] else [])) }
+/// Whether an op asks to read.
+fn asks_to_read(want: &Want) -> bool
+    ensures { result ≡ is_read (Some want.now) }
 {
-    if place <= behind.len() {
-        behind[place - 1].push(op)?;
+    matches!(want, Want::Read { .. })
+}
+
+/// Puts the mark at i in front of the reads that stand behind that many marks, if there are so many.
+fn put_in_front(behind: &mut Behind, place: usize, i: usize)
+    requires some { 0 < place }
+    requires within { i < length behind.old.nexts.items }
+    ensures { PutsInFront behind.old behind.new place i }
+{
+    if place <= behind.heads.len() {
+        behind.nexts[i] = behind.heads[place - 1];
+        behind.heads[place - 1] = i;
     }
-    Ok(())
 }
 
 /// Puts a read that the mark at i invokes behind its place.
-fn note_read(
-    behind: &mut Vec<Vec<OpId>>,
-    marks: &[Mark],
-    places: &Places,
-    mark: &Mark,
-    i: usize,
-) -> Result<(), NoMemory>
-    requires { StandsFor places.now marks.now }
-    ensures { OnOk result (Puts behind.old.items behind.new.items (λ j. filter (λ op. nat_eq (read_place marks.now op) (j + 1)) (invoke_here marks.now i mark.now))) }
+fn note_read(behind: &mut Behind, marks: &[Mark], places: &Places, i: usize)
+    requires stands { StandsFor (length marks.now) places.now marks.now }
+    requires within { i < length marks.now }
+    requires behind { AreBehind marks.now (i + 1) behind.old }
+    ensures { AreBehind marks.now i behind.new }
 {
-    if let Mark::Invoke { op, .. } = mark {
-        if place_of_invoke(marks, places, *op) == i {
-            return put_behind(behind, place_of_read(marks, places, *op), *op);
+    if let Mark::Invoke { op, want } = &marks[i] {
+        let found = op_places(marks, places, *op);
+        if found.invoked == i {
+            let place = place_of_read(marks, places, found, asks_to_read(want));
+            put_in_front(behind, place, i);
         }
     }
-    Ok(())
 }
 
 /// The reads that stand behind each mark.
-fn reads_behind(alloc: Global, marks: &[Mark], places: &Places) -> Result<Vec<Vec<OpId>>, NoMemory>
-    requires { StandsFor places.now marks.now }
-    ensures { IfOk result (λ behind. AreBehind marks.now marks.now behind.items) }
+fn reads_behind(alloc: Global, marks: &[Mark], places: &Places) -> Result<Behind, NoMemory>
+    requires { StandsFor (length marks.now) places.now marks.now }
+    ensures { IfOk result (λ behind. AreBehind marks.now 0 behind) }
 {
-    let mut behind = Vec::new(alloc);
-    for _ in 0..marks.len() {
-        behind.push(Vec::new(alloc))?;
-    }
-    for (i, mark) in marks.iter().enumerate() {
-        note_read(&mut behind, marks, places, mark, i)?;
+    let count = marks.len();
+    let mut behind = Behind {
+        heads: vec![in alloc; count; count]?,
+        nexts: vec![in alloc; count; count]?,
+    };
+    for done in 0..count {
+        note_read(&mut behind, marks, places, count - 1 - done);
     }
     Ok(behind)
 }
@@ -210,13 +253,46 @@ fn push_commit(
     mark: &Mark,
     i: usize,
 ) -> Result<(), NoMemory>
-    requires { StandsFor places.now marks.now }
+    requires { StandsFor (length marks.now) places.now marks.now }
     ensures { OnOk result (ops.new.items ≡ ops.old.items ++ commit_here marks.now i mark.now) }
 {
     if let Mark::Commit { op, .. } = mark {
-        if place_of_commit(marks, places, *op) == i {
+        if op_places(marks, places, *op).committed == i {
             ops.push(*op)?;
         }
+    }
+    Ok(())
+}
+
+/// The op that the mark at i invokes.
+fn push_invoked(ops: &mut Vec<OpId>, marks: &[Mark], i: usize) -> Result<(), NoMemory>
+    requires { i < length marks.now }
+    ensures { (op : OpId) → (want : Want) → At marks.now i (Invoke op want) → OnOk result (ops.new.items ≡ ops.old.items ++ op ∷ []) }
+{
+    if let Mark::Invoke { op, .. } = &marks[i] {
+        ops.push(*op)?;
+    }
+    Ok(())
+}
+
+/// The reads that stand behind the mark at i.
+fn push_reads(
+    ops: &mut Vec<OpId>,
+    marks: &[Mark],
+    behind: &Behind,
+    i: usize,
+) -> Result<(), NoMemory>
+    requires within { i < length marks.now }
+    requires behind { AreBehind marks.now 0 behind.now }
+    ensures { OnOk result (ops.new.items ≡ ops.old.items ++ reads_after marks.now (i + 1)) }
+{
+    let mut read = behind.heads[i];
+    for _ in read..marks.len() {
+        if read >= marks.len() {
+            break;
+        }
+        push_invoked(ops, marks, read)?;
+        read = behind.nexts[read];
     }
     Ok(())
 }
@@ -227,10 +303,10 @@ pub fn order_of(alloc: Global, marks: &[Mark]) -> Result<Vec<OpId>, NoMemory>
 {
     let places = places_of(alloc, marks)?;
     let behind = reads_behind(alloc, marks, &places)?;
-    let mut ops = Vec::new(alloc);
+    let mut ops = Vec::with_capacity(alloc, marks.len() / 2)?;
     for (i, mark) in marks.iter().enumerate() {
         push_commit(&mut ops, marks, &places, mark, i)?;
-        ops.extend_from_slice(behind[i].as_slice())?;
+        push_reads(&mut ops, marks, &behind, i)?;
     }
     Ok(ops)
 }

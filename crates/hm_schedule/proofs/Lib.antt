@@ -1,4 +1,5 @@
 mod FieldTexts
+mod Digits
 mod Names
 mod LineLemmas
 mod BufferParts

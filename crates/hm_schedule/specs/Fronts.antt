@@ -1,5 +1,5 @@
 -- What one line more adds to the front of a schedule.
-use Rattle.std.specs.Prelude.{◌≡◌, ℕ, ◌<◌, ◌≤◌, List, [], ◌∷◌, ◌++◌, length}
+use Rattle.std.specs.Prelude.{◌≡◌, ◌<◌, ◌≤◌, List, [], ◌∷◌, ◌++◌, length}
 use Rattle.hm_schedule.specs.Limits.{max_events}
 use Rattle.hm_schedule.specs.Setups.{event_of}
 use Rattle.hm_schedule.specs.Orders.{Stage, MayCome, IsNext, IsBegun, after, stage_of, events_at, line_bytes, lines_text, set_by, setup_in, events_in}

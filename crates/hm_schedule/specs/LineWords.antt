@@ -1,5 +1,5 @@
 -- The words of a line, with single spaces between them.
-use Rattle.std.specs.Prelude.{◌≡◌, ◌≢◌, ℕ, List, [], ◌∷◌, ◌++◌, All}
+use Rattle.std.specs.Prelude.{◌≡◌, ◌≢◌, ◌≤◌, ℕ, List, [], ◌∷◌, ◌++◌, All}
 
 -- bytes with no space among them
 abbrev pub IsWord : List ℕ → Type 0
@@ -15,3 +15,7 @@ pub record SplitsWord (text word rest : List ℕ) : Type 0 where
   pub parts : text ≡ word ++ rest
   pub whole : IsWord word
   pub ends : IsWordEnd rest
+
+-- a decimal digit
+abbrev pub IsDigit : ℕ → Type 0
+IsDigit byte = (48 ≤ byte) × (byte ≤ 57)

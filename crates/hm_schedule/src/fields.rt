@@ -1,9 +1,9 @@
-ghost use Rattle.std.specs.Prelude.{◌≡◌, ◌≢◌, ◌^◌, ◌<◌, ◌≤◌, ℕ, List, ◌∷◌, ◌++◌, IfSome, IfNone, IsSomeAnd, codes, decimal};
+ghost use Rattle.std.specs.Prelude.{◌≡◌, ◌≢◌, ◌^◌, ◌<◌, ◌≤◌, ℕ, List, ◌∷◌, ◌++◌, IfSome, IfNone, IsSomeAnd, IsTrue, ◌↔◌, codes, decimal};
 ghost use Rattle.hm_base.specs.Spellings.{value_text};
-ghost use Rattle.hm_schedule.specs.LineWords.{IsWord, IsWordEnd, SplitsWord};
+ghost use Rattle.hm_schedule.specs.LineWords.{IsDigit, IsWord, IsWordEnd, SplitsWord};
 ghost use Rattle.hm_schedule.specs.Ranges.{IsValue};
 
-use hm_base::spelling::{read_number, read_value};
+use hm_base::spelling::read_value;
 use hm_base::value::Value;
 use memchr::memchr;
 
@@ -28,29 +28,49 @@ fn next_word(text: &[u8]) -> Option<(&[u8], &[u8])>
     }
 }
 
-/// The number of at most 32 bits that a word spells. None exactly for any other word.
-fn number_of(word: &[u8]) -> Option<u32>
-    ensures some { IfSome result (λ n. word.now ≡ decimal n) }
-    ensures none { IfNone result ((n : ℕ) → n < 2 ^ 32 → word.now ≢ decimal n) }
+/// The number of at most 32 bits whose one spelling a text begins with, and what is behind its digits. None only where no such
+/// number is the text's first word.
+fn cut_number(text: &[u8]) -> Option<(u32, &[u8])>
+    ensures some { IfSome result (λ found. text.now ≡ decimal found.0 ++ found.1.now) }
+    ensures only { (n : ℕ) → (rest : List ℕ) → n < 2 ^ 32 → IsWordEnd rest → text.now ≡ decimal n ++ rest
+        → IsSomeAnd result (λ found. (found.0 ≡ n) × (found.1.now ≡ rest)) }
 {
-    match read_number(word) {
-        Some(number) => u32::try_from(number).ok(),
-        None => None,
+    if text.is_empty() || !is_digit(text[0]) {
+        return None;
     }
+    let mut number = u64::from(text[0] - b'0');
+    if number == 0 {
+        return Some((0, &text[1..]));
+    }
+    for place in 1..text.len() {
+        if !is_digit(text[place]) {
+            return Some((number as u32, &text[place..]));
+        }
+        number = 10 * number + u64::from(text[place] - b'0');
+        if number > u64::from(u32::MAX) {
+            return None;
+        }
+    }
+    Some((number as u32, &text[text.len()..]))
 }
 
-/// The number of at most 32 bits behind a space, and the rest. None exactly for any other text.
+/// Whether a byte is a decimal digit.
+fn is_digit(byte: u8) -> bool
+    ensures { IsTrue result ↔ IsDigit byte }
+{
+    byte >= b'0' && byte <= b'9'
+}
+
+/// The number of at most 32 bits behind a space, and what is behind its digits. None only where no such number is the word behind
+/// the space.
 pub(crate) fn next_number(text: &[u8]) -> Option<(u32, &[u8])>
     ensures some { IfSome result (λ found. text.now ≡ 32 ∷ (decimal found.0 ++ found.1.now)) }
     ensures only { (n : ℕ) → (rest : List ℕ) → n < 2 ^ 32 → IsWordEnd rest → text.now ≡ 32 ∷ (decimal n ++ rest)
         → IsSomeAnd result (λ found. (found.0 ≡ n) × (found.1.now ≡ rest)) }
 {
-    match next_word(text) {
-        Some((word, rest)) => match number_of(word) {
-            Some(number) => Some((number, rest)),
-            None => None,
-        },
-        None => None,
+    match text {
+        [b' ', rest @ ..] => cut_number(rest),
+        _ => None,
     }
 }
 
@@ -69,7 +89,8 @@ pub(crate) fn next_value(text: &[u8]) -> Option<(Value, &[u8])>
     }
 }
 
-/// The number of at most `most` behind a space, and the rest. None exactly for any other text.
+/// The number of at most `most` behind a space, and what is behind its digits. None only where no such number is the word behind
+/// the space.
 pub(crate) fn next_small(text: &[u8], most: u8) -> Option<(u8, &[u8])>
     ensures some { IfSome result (λ found. (text.now ≡ 32 ∷ (decimal found.0 ++ found.1.now)) × (found.0 ≤ most)) }
     ensures only { (n : ℕ) → (rest : List ℕ) → n ≤ most → IsWordEnd rest → text.now ≡ 32 ∷ (decimal n ++ rest)

@@ -1,4 +1,4 @@
-ghost use Rattle.std.specs.Prelude.{◌≡◌, ◌+◌, ◌-◌, ◌<◌, ◌≤◌, [], ◌++◌, length, take, drop, slice_range, IfOk, IfSome, IfNone};
+ghost use Rattle.std.specs.Prelude.{◌≡◌, ◌+◌, ◌-◌, ◌<◌, ◌≤◌, [], ◌++◌, ◌∷◌, ℕ, List, length, take, drop, slice_range, codes, IsTrue, IsFalse, IfOk, IfSome, IfNone};
 ghost use Rattle.hm_outside.specs.Faults.{Counts};
 ghost use Rattle.hm_schedule.specs.LineTexts.{IsLine, ended};
 ghost use Rattle.hm_schedule.specs.Fills.{Fills, filled_count};
@@ -97,6 +97,23 @@ impl LineReader {
                 Ok(_) => {}
                 Err(failed) => return Err(failed),
             }
+        }
+    }
+
+    /// Cuts the line `next` off, if it is ahead with its end. Otherwise nothing changes.
+    pub(crate) fn cut_next(&mut self) -> bool
+        ensures cut { IsTrue result → (self.new.line ≡ codes "next") × (self.old.ahead ≡ ended (codes "next") ++ self.new.ahead) }
+        ensures whole { (more : List ℕ) → self.old.ahead ≡ ended (codes "next") ++ more → IsTrue result }
+        ensures not_cut { IsFalse result → self.new ≡ self.old }
+    {
+        match &self.buffer[self.start..self.end] {
+            [b'n', b'e', b'x', b't', b'\n', ..] => {
+                self.line_start = self.start;
+                self.line_end = self.start + 4;
+                self.start += 5;
+                true
+            }
+            _ => false,
         }
     }
 

@@ -9,6 +9,7 @@ ghost use Rattle.hm_schedule.specs.Stages.{stage_at};
 ghost use Rattle.hm_schedule.specs.Nexts.{ComesOrFails, IsSpelledBy, EventComesOrFails, OpensOrFails};
 
 use crate::event::Event;
+use crate::limits::MAX_EVENTS;
 use crate::line::{Line, LineReason, read_line};
 use crate::lines::{Found, LineReader};
 use crate::opening::Opening;
@@ -52,8 +53,25 @@ pub fn read_opening<S: Source>(
     }
 }
 
-/// Reads what comes next behind so many events. Behind as many as a schedule may have, any byte is one too many.
+/// Reads what comes next behind so many events. Behind as many as a schedule may have, any byte is one too many. Most lines are
+/// `next`, so this one is looked for first.
 pub fn next_event<S: Source>(
+    reader: &mut LineReader,
+    source: &mut S,
+    events: u32,
+) -> Result<NextEvent, Failed>
+    ensures next { EventComesOrFails result (orders.Stage.Running events) reader.old.ahead reader.new.ahead (S.left source.old) (S.left source.new) }
+    ensures counted { Counts (S.faults source.old) (S.faults source.new) result }
+{
+    if events < MAX_EVENTS && reader.cut_next() {
+        return Ok(NextEvent::Event(Event::Next));
+    }
+    any_event(reader, source, events)
+}
+
+/// Reads what comes next behind so many events, whatever it is.
+#[inline(never)]
+fn any_event<S: Source>(
     reader: &mut LineReader,
     source: &mut S,
     events: u32,

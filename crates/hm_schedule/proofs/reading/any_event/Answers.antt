@@ -1,7 +1,7 @@
 use Rattle.std.proofs.Common.{◌++◌}
 use Rattle.hm_schedule.specs.Orders.{Stage}
 use Rattle.hm_schedule.proofs.NotNext.{outside_bad}
-use Rattle.hm_schedule.proofs.reading.next_event.Goals as goal
+use Rattle.hm_schedule.proofs.reading.any_event.Goals as goal
 
 pub returns-in-Ok-Bad-clause-next : goal.returns-in-Ok-Bad-clause-next
 returns-in-Ok-Bad-clause-next g c =
