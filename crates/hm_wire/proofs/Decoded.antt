@@ -9,7 +9,10 @@ use Rattle.hm_wire.specs.Grammar.{spell}
 use Rattle.hm_wire.specs.Packets.{packet_fields, numbers, spelling, first_fault, HasSpelling}
 use Rattle.hm_wire.specs.Reading.{◌>>=◌, Part, head_at, body_at, end_with, packet_of, located_at, located}
 use Rattle.hm_wire.specs.Exact.{IsBytes, IsExact}
-use Rattle.hm_wire.proofs.GrammarLaws.{no_fault}
+use Rattle.std.proofs.lemmas.Option.{none-some}
+use Rattle.hm_wire.specs.Grammar.Grammar.{ended}
+use Rattle.hm_wire.proofs.GrammarLaws.{no_fault, spell_bytes}
+use Rattle.hm_wire.proofs.Unread.{one_packet}
 use Rattle.hm_wire.proofs.Readers.{placed}
 use Rattle.hm_wire.proofs.PacketReader.{packet_good, packet_bad}
 use Rattle.hm_wire.proofs.Lengths.{first_fault-place}
@@ -43,3 +46,15 @@ reading_exact bytes fits = by_case (packet_of bytes) refl
           err = e ∙ ap (λ (k : ℕ). Some (record { at = k; reason = f.reason })) at;
           place = omega arith;
         }
+
+-- what spells a packet is read as it
+pub reads_back : (m : Message) → HasSpelling m → packet_of (spelling m) ≡ Ok m
+unfolding spelling HasSpelling
+reads_back m h = by_case (packet_of (spelling m)) refl
+  where
+    fits : IsBytes (spelling m)
+    fits = spell_bytes packet_fields ended (numbers m) h
+
+    by_case : (read : Result Message Fault) → packet_of (spelling m) ≡ read → packet_of (spelling m) ≡ Ok m
+    by_case (Ok n) got = let good = packet_good (spelling m) n fits got in got ∙ ap (λ (x : Message). Ok x) (one_packet n m good.0 h good.1)
+    by_case (Err f) got = absurd (none-some _ (sym (spelled_well m h) ∙ packet_bad (spelling m) f fits got))

@@ -1,8 +1,9 @@
 -- Laws of every grammar: numbers are read as they were spelled, and where they may stand no fault comes before their end.
-use Rattle.std.proofs.Common.{◌≡◌, ℕ, ◌+◌, ◌<◌, Bool, true, false, ltb, List, [], ◌∷◌, ◌++◌, length, get_or, take, drop, None, refl, sym, ap, subst, ◌∙◌, append_assoc, arith, inl, inr}
+use Rattle.std.proofs.Common.{◌≡◌, ℕ, zero, suc, ◌+◌, ◌<◌, Bool, true, false, ltb, List, [], ◌∷◌, ◌++◌, length, get_or, take, drop, None, refl, sym, ap, subst, ◌∙◌, append_assoc, arith, inl, inr}
 use Rattle.std.proofs.lemmas.Bool.{cases_lt, le-ltb}
 use Rattle.std.proofs.lemmas.List.{append-nil, take_at, drop_at, length-append, length-take, get_or-drop, get_or-take, get_or_past}
 use Rattle.std.proofs.lemmas.Nat.{be_bytes_4, be_bytes_8, from_be_bytes-to_be_bytes_4, from_be_bytes-to_be_bytes_8}
+use Rattle.std.specs.Int.{bytes_high_first}
 use Rattle.hm_wire.specs.declared.malformed.Reason.{Reason}
 use Rattle.hm_wire.specs.Exact.{IsBytes}
 use Rattle.hm_wire.specs.Grammar.{Size, size, spelled, number_of, limit, Grammar, spell, fault, Leads}
@@ -110,3 +111,30 @@ one_spelling (field s may why next) (n ∷ ns) (k ∷ ms) l m e =
     let other : Leads (next n) ms ended = subst (λ (x : ℕ). Leads (next x) ms ended) (sym h.0) m.2 in
     let tails : spell (next n) ns ≡ spell (next n) ms = h.1 ∙ ap (λ (x : ℕ). spell (next x) ms) (sym h.0) in
     ap (λ (x : ℕ). x ∷ ns) h.0 ∙ ap (λ (x : List ℕ). k ∷ x) (one_spelling (next n) ns ms l.2 other tails)
+
+-- ---- bytes
+
+append_bytes : (xs ys : List ℕ) → IsBytes xs → IsBytes ys → IsBytes (xs ++ ys)
+append_bytes [] ys h k i = k i
+append_bytes (x ∷ xs) ys h k zero = h 0
+append_bytes (x ∷ xs) ys h k (suc i) = append_bytes xs ys (λ j. h (suc j)) k i
+
+high_bytes : (k n : ℕ) → IsBytes (bytes_high_first k n)
+high_bytes zero n i = omega arith
+high_bytes (suc zero) n zero = omega arith
+high_bytes (suc zero) n (suc i) = omega arith
+high_bytes (suc (suc k)) n zero = omega arith
+high_bytes (suc (suc k)) n (suc i) = high_bytes (suc k) n i
+
+spelled_bytes : (s : Size) (n : ℕ) → n < limit s → IsBytes (spelled s n)
+spelled_bytes U8 n lt zero = lt
+spelled_bytes U8 n lt (suc i) = omega arith
+spelled_bytes U32 n lt i = high_bytes 4 n i
+spelled_bytes U64 n lt i = high_bytes 8 n i
+
+-- what spells numbers that fill the fields is bytes
+pub spell_bytes : (g h : Grammar) (ns : List ℕ) → Leads g ns h → IsBytes (spell g ns)
+spell_bytes ended h [] l i = omega arith
+spell_bytes (field s may why next) h [] l i = omega arith
+spell_bytes ended h (n ∷ ns) l i = absurd l
+spell_bytes (field s may why next) h (n ∷ ns) l i = append_bytes (spelled s n) (spell (next n) ns) (spelled_bytes s n l.0) (spell_bytes (next n) h ns l.2) i

@@ -1,6 +1,6 @@
 //! Laws of the spelling of packets, as contracts of functions that do nothing.
 
-ghost use Rattle.std.specs.Prelude.{◌≡◌, ◌≤◌, ℕ, List, length, None};
+ghost use Rattle.std.specs.Prelude.{◌≡◌, ◌≤◌, ℕ, List, length, None, Ok};
 ghost use Rattle.hm_packet.specs.Messages.{Message};
 ghost use Rattle.hm_wire.specs.Exact.{IsBytes, IsExact};
 ghost use Rattle.hm_wire.specs.Reading.{located, packet_of};
@@ -20,6 +20,11 @@ pub fn spelling_tells_the_packet()
 /// The longest spelling has 1,533 bytes.
 pub fn spelling_is_short()
     ensures { (m : Message) → HasSpelling m → length (spelling m) ≤ max_spelling_len }
+{}
+
+/// What spells a packet is read as that packet.
+pub fn spelling_is_read_back()
+    ensures { (m : Message) → HasSpelling m → packet_of (spelling m) ≡ Ok m }
 {}
 
 /// What is read off bytes, part by part from left to right, is exact: the packet that they spell, or their first fault.
