@@ -1,2 +1,3 @@
 mod Writers
 mod Decoded
+mod Rows
