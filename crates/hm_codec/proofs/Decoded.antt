@@ -1,11 +1,27 @@
 -- What decoding gives, where what is read off bytes is exact.
-use Rattle.std.proofs.Common.{◌≡◌, ℕ, List, length, Result, Ok, Err, sym, ap, subst, ◌∙◌}
+use Rattle.std.proofs.Common.{◌≡◌, ◌≤◌, ℕ, List, length, Result, Ok, Err, sym, ap, subst, ◌∙◌}
+use Rattle.std.specs.Prelude.{◌↔◌, IsOk, OnOk, OnErr, IfErr, None, Some}
 use Rattle.hm_packet.specs.Messages.{Message}
 use Rattle.hm_wire.specs.declared.fault.Fault.{Fault}
 use Rattle.hm_wire.specs.declared.head.Head.{Head}
 use Rattle.hm_wire.specs.declared.malformed.Malformed.{Malformed}
 use Rattle.hm_wire.specs.Reading.{◌>>=◌, Part, head_at, body_at, end_with, packet_of, located_at, located}
 use Rattle.hm_wire.specs.Exact.{IsBytes, IsExact}
+use Rattle.hm_wire.specs.Packets.{spelling, first_fault, HasSpelling}
+use Rattle.hm_codec.specs.Placed.{placed}
+
+-- what decoding into a place answers
+pub record Answered (bytes : List ℕ) (r : Result Unit Malformed) (old new : Message) : Type 0 where
+  pub ok : OnOk r (spelling new ≡ bytes)
+  pub lawful : OnOk r (HasSpelling new)
+  pub exact : IsOk r ↔ (first_fault bytes ≡ None)
+  pub err : IfErr r (λ m. first_fault bytes ≡ Some m)
+  pub place : IfErr r (λ m. m.at ≤ length bytes)
+  pub same : OnErr r (new ≡ old)
+
+pub answered : (r : Result Unit Malformed) (old new : Message) (bytes : List ℕ) → IsExact bytes (placed r new) → OnErr r (new ≡ old) → Answered bytes r old new
+answered (Ok u) old new bytes a same = record { ok = a.ok; lawful = a.lawful; exact = a.exact; err = tt; place = tt; same = tt }
+answered (Err f) old new bytes a same = record { ok = tt; lawful = tt; exact = a.exact; err = a.err; place = a.place; same = same }
 
 module _ (reading : (bytes : List ℕ) → IsBytes bytes → IsExact bytes (located (length bytes) (packet_of bytes))) where
   answers : (bytes : List ℕ) (r : Result Message Malformed) → IsBytes bytes → r ≡ located (length bytes) (packet_of bytes) → IsExact bytes r

@@ -1,82 +1,213 @@
--- Packets as spellings in a row: what a row tells, a row that grows, and the bytes of one of its packets.
-use Rattle.std.proofs.Common.{◌≡◌, ℕ, zero, suc, ◌+◌, ◌-◌, ◌<◌, ◌≤◌, List, [], ◌∷◌, ◌++◌, length, map, take, drop, Option, Some, None, refl, sym, ap, subst, ◌∙◌, append_assoc, arith}
-use Rattle.std.specs.Prelude.{All, flat_map, slice_range, slice_get}
-use Rattle.std.proofs.lemmas.List.{append-nil, length-append, take_at, drop_at}
-use Rattle.std.proofs.lemmas.List.Concat.{flat_map-append}
-use Rattle.std.proofs.lemmas.List.Elements.{All-append}
+-- Packets as spellings in a row: what they tell, one more packet, and one row behind another.
+use Rattle.std.proofs.Common.{◌≡◌, ℕ, zero, suc, ◌+◌, ◌-◌, ◌*◌, ◌<◌, ◌≤◌, List, [], ◌∷◌, ◌++◌, length, get_or, take, drop, map, Result, Ok, Err, None, Some, refl, sym, ap, subst, ◌∙◌, append_assoc, arith, rules, false, true}
+use Rattle.std.specs.Prelude.{slice_range, slice_get, flat_map, All, ◌↔◌}
+use Rattle.std.proofs.lemmas.Option.{none-some}
+use Rattle.std.proofs.lemmas.List.{append-nil, length-append}
+use Rattle.std.proofs.lemmas.List.Elements.{All-append, All-nil}
+use Rattle.std.proofs.lemmas.Grind.{flat_map-append}
+use Rattle.std.proofs.Math.Seq.{take-append_seam, drop-append_seam}
 use Rattle.hm_packet.specs.Messages.{Message}
-use Rattle.hm_wire.specs.Packets.{spelling, HasSpelling}
-use Rattle.hm_codec.specs.Rows.{told, told_from, ends_from, IsRow}
+use Rattle.hm_wire.specs.declared.fault.Fault.{Fault}
+use Rattle.hm_wire.specs.declared.malformed.Malformed.{Malformed}
+use Rattle.hm_wire.specs.Exact.{IsBytes, IsExact}
+use Rattle.hm_wire.specs.Grammar.{Size, Grammar, spell, spelled, limit, Leads}
+use Rattle.hm_wire.specs.Grammar.Size.{U8, U32, U64}
+use Rattle.hm_wire.specs.Grammar.Grammar.{ended, field}
+use Rattle.hm_wire.specs.Packets.{spelling, first_fault, HasSpelling, packet_fields, numbers, max_spelling_len}
+use Rattle.hm_wire.specs.Reading.{located, packet_of}
+use Rattle.hm_codec.specs.Rows.{read_or, some_packet, told, told_from, ends_from, IsRow}
 
--- ---- lists of numbers
+-- ---- spellings are bytes
 
-part : (front x back : List ℕ) (at : ℕ) → at ≡ length front → slice_range (front ++ (x ++ back)) at (at + length x) ≡ x
-part front x back at is =
-    let n : (at + length x) - at ≡ length x = omega arith in
-    ap (λ (k : ℕ). take k (drop at (front ++ (x ++ back)))) n ∙ ap (λ (l : List ℕ). take (length x) l) (drop_at front (x ++ back) at (sym is)) ∙ take_at x back (length x) refl
+bytes-nil : IsBytes []
+bytes-nil i = omega arith
+
+bytes-cons : (b : ℕ) (bs : List ℕ) → b < 256 → IsBytes bs → IsBytes (b ∷ bs)
+bytes-cons b bs lt h zero = lt
+bytes-cons b bs lt h (suc i) = h i
+
+bytes-append : (xs ys : List ℕ) → IsBytes xs → IsBytes ys → IsBytes (xs ++ ys)
+bytes-append [] ys h k = k
+bytes-append (x ∷ xs) ys h k = bytes-cons x (xs ++ ys) (h 0) (bytes-append xs ys (λ i. h (suc i)) k)
+
+bytes-spelled : (s : Size) (n : ℕ) → n < limit s → IsBytes (spelled s n)
+bytes-spelled U8 n lt zero = omega arith
+bytes-spelled U8 n lt (suc i) = omega arith
+bytes-spelled U32 n lt zero = omega arith
+bytes-spelled U32 n lt (suc zero) = omega arith
+bytes-spelled U32 n lt (suc (suc zero)) = omega arith
+bytes-spelled U32 n lt (suc (suc (suc zero))) = omega arith
+bytes-spelled U32 n lt (suc (suc (suc (suc i)))) = omega arith
+bytes-spelled U64 n lt zero = omega arith
+bytes-spelled U64 n lt (suc zero) = omega arith
+bytes-spelled U64 n lt (suc (suc zero)) = omega arith
+bytes-spelled U64 n lt (suc (suc (suc zero))) = omega arith
+bytes-spelled U64 n lt (suc (suc (suc (suc zero)))) = omega arith
+bytes-spelled U64 n lt (suc (suc (suc (suc (suc zero))))) = omega arith
+bytes-spelled U64 n lt (suc (suc (suc (suc (suc (suc zero)))))) = omega arith
+bytes-spelled U64 n lt (suc (suc (suc (suc (suc (suc (suc zero))))))) = omega arith
+bytes-spelled U64 n lt (suc (suc (suc (suc (suc (suc (suc (suc i)))))))) = omega arith
+
+bytes-spell : (g : Grammar) (ns : List ℕ) → Leads g ns ended → IsBytes (spell g ns)
+bytes-spell ended ns h = bytes-nil
+bytes-spell (field s may why next) [] h = bytes-nil
+bytes-spell (field s may why next) (n ∷ ns) h = bytes-append (spelled s n) (spell (next n) ns) (bytes-spelled s n h.0) (bytes-spell (next n) ns h.2)
+
+pub bytes-spelling : (m : Message) → HasSpelling m → IsBytes (spelling m)
+unfolding spelling HasSpelling
+bytes-spelling m h = bytes-spell packet_fields (numbers m) h
+
+-- ---- lengths
+
+pub length-told : (ends bytes : List ℕ) (at : ℕ) → length (told_from at ends bytes) ≡ length ends
+length-told [] bytes at = refl
+length-told (e ∷ ends) bytes at = ap suc (length-told ends bytes e)
+
+pub length-ends : (ms : List Message) (at : ℕ) → length (ends_from at ms) ≡ length ms
+length-ends [] at = refl
+length-ends (m ∷ ms) at = ap suc (length-ends ms (at + length (spelling m)))
+
+all_tail : (m : Message) (ms : List Message) → All HasSpelling (m ∷ ms) → All HasSpelling ms
+all_tail m ms h k d lt = h (suc k) d (omega arith)
+
+pub row_length : ((m : Message) → HasSpelling m → length (spelling m) ≤ max_spelling_len) → (ms : List Message) → All HasSpelling ms → length (flat_map spelling ms) ≤ length ms * max_spelling_len
+row_length short [] h = omega arith
+row_length short (m ∷ ms) h =
+    let one : length (spelling m) ≤ max_spelling_len = short m (h 0 m (omega arith)) in
+    let more : length (flat_map spelling ms) ≤ length ms * max_spelling_len = row_length short ms (all_tail m ms h) in
+    omega (arith, length-append (spelling m) (flat_map spelling ms))
 
 -- ---- ends
 
-pub ends_append : (at : ℕ) (ms ns : List Message) → ends_from at (ms ++ ns) ≡ ends_from at ms ++ ends_from (at + length (flat_map spelling ms)) ns
-ends_append at [] ns = let e : at ≡ at + 0 = omega arith in ap (λ (k : ℕ). ends_from k ns) e
-ends_append at (m ∷ ms) ns =
-    let e : (at + length (spelling m)) + length (flat_map spelling ms) ≡ at + length (spelling m ++ flat_map spelling ms) = omega (arith, length-append (spelling m) (flat_map spelling ms)) in
-    ap (λ (l : List ℕ). (at + length (spelling m)) ∷ l) (ends_append (at + length (spelling m)) ms ns ∙ ap (λ (k : ℕ). ends_from (at + length (spelling m)) ms ++ ends_from k ns) e)
+pub ends-append : (ms ns : List Message) (at : ℕ) → ends_from at (ms ++ ns) ≡ ends_from at ms ++ ends_from (at + length (flat_map spelling ms)) ns
+ends-append [] ns at = ap (λ (k : ℕ). ends_from k ns) (omega arith)
+ends-append (m ∷ ms) ns at =
+    let step : (at + length (spelling m)) + length (flat_map spelling ms) ≡ at + length (flat_map spelling (m ∷ ms)) = omega (arith, length-append (spelling m) (flat_map spelling ms)) in
+    ap (λ (l : List ℕ). (at + length (spelling m)) ∷ l) (ends-append ms ns (at + length (spelling m)) ∙ ap (λ (k : ℕ). ends_from (at + length (spelling m)) ms ++ ends_from k ns) step)
 
--- ends that are moved by what stands before them
-pub ends_moved : (before at : ℕ) (ms : List Message) → map (λ (end : ℕ). before + end) (ends_from at ms) ≡ ends_from (before + at) ms
-ends_moved before at [] = refl
-ends_moved before at (m ∷ ms) =
-    let e : before + (at + length (spelling m)) ≡ (before + at) + length (spelling m) = omega arith in
-    ap (λ (k : ℕ). k ∷ map (λ (end : ℕ). before + end) (ends_from (at + length (spelling m)) ms)) e
-    ∙ ap (λ (l : List ℕ). ((before + at) + length (spelling m)) ∷ l) (ends_moved before (at + length (spelling m)) ms ∙ ap (λ (k : ℕ). ends_from k ms) e)
+pub ends-moved : (ms : List Message) (by at : ℕ) → ends_from (by + at) ms ≡ map (λ (e : ℕ). by + e) (ends_from at ms)
+ends-moved [] by at = refl
+ends-moved (m ∷ ms) by at =
+    let step : (by + at) + length (spelling m) ≡ by + (at + length (spelling m)) = omega arith in
+    ap (λ (k : ℕ). k ∷ ends_from k ms) step ∙ ap (λ (l : List ℕ). (by + (at + length (spelling m))) ∷ l) (ends-moved ms by (at + length (spelling m)))
 
-pub ends-length : (at : ℕ) (ms : List Message) → length (ends_from at ms) ≡ length ms
-ends-length at [] = refl
-ends-length at (m ∷ ms) = ap suc (ends-length (at + length (spelling m)) ms)
+-- ---- rows
+
+pub no_row : IsRow [] [] []
+no_row = record { spelled = refl; places = refl; lawful = All-nil HasSpelling }
+
+-- a row behind another, whose ends are moved by the length of the first
+pub rows_then : (es bs fs cs : List ℕ) (ms ns : List Message) → IsRow es bs ms → IsRow fs cs ns → IsRow (es ++ map (λ (e : ℕ). length bs + e) fs) (bs ++ cs) (ms ++ ns)
+rows_then es bs fs cs ms ns h k = record {
+  spelled = ap (λ (l : List ℕ). l ++ cs) h.spelled ∙ ap (λ (l : List ℕ). flat_map spelling ms ++ l) k.spelled ∙ sym (flat_map-append spelling ms ns);
+  places = both;
+  lawful = All-append HasSpelling ms ns h.lawful k.lawful;
+}
+  where
+    moved : map (λ (e : ℕ). length bs + e) fs ≡ ends_from (0 + length (flat_map spelling ms)) ns
+    moved = ap (λ (l : List ℕ). map (λ (e : ℕ). length bs + e) l) k.places ∙ sym (ends-moved ns (length bs) 0) ∙ ap (λ (j : ℕ). ends_from j ns) (let e : length bs ≡ length (flat_map spelling ms) = ap length h.spelled in omega arith)
+
+    both : es ++ map (λ (e : ℕ). length bs + e) fs ≡ ends_from 0 (ms ++ ns)
+    both = ap (λ (l : List ℕ). l ++ map (λ (e : ℕ). length bs + e) fs) h.places ∙ ap (λ (l : List ℕ). ends_from 0 ms ++ l) moved ∙ sym (ends-append ms ns 0)
+
+one_row : (m : Message) → HasSpelling m → IsRow (length (spelling m) ∷ []) (spelling m) (m ∷ [])
+one_row m h = record { spelled = sym (append-nil (spelling m)); places = ap (λ (k : ℕ). k ∷ []) (omega arith); lawful = one }
+  where
+    one : All HasSpelling (m ∷ [])
+    one zero d lt = h
+    one (suc k) d lt = absurd (omega arith)
+
+-- a row and one more packet
+pub row_more : (es bs : List ℕ) (ms : List Message) (m : Message) → IsRow es bs ms → HasSpelling m → IsRow (es ++ length (bs ++ spelling m) ∷ []) (bs ++ spelling m) (ms ++ m ∷ [])
+row_more es bs ms m h k =
+    subst (λ (e : ℕ). IsRow (es ++ e ∷ []) (bs ++ spelling m) (ms ++ m ∷ [])) (sym (length-append bs (spelling m)))
+    (rows_then es bs (length (spelling m) ∷ []) (spelling m) ms (m ∷ []) h (one_row m k))
+
+-- a row has no more bytes than so many of the longest spellings
+pub row_short : ((m : Message) → HasSpelling m → length (spelling m) ≤ max_spelling_len) → (es bs : List ℕ) (ms : List Message) → IsRow es bs ms → length bs ≤ length es * max_spelling_len
+row_short short es bs ms h =
+    let few : length (flat_map spelling ms) ≤ length ms * max_spelling_len = row_length short ms h.lawful in
+    let long : length bs ≡ length (flat_map spelling ms) = ap length h.spelled in
+    let many : length es ≡ length ms = ap length h.places ∙ length-ends ms 0 in
+    omega (arith, few, long, many)
+
+-- ---- the bytes of one packet
+
+slice_seam : (before middle after : List ℕ) → slice_range (before ++ (middle ++ after)) (length before) (length before + length middle) ≡ middle
+slice_seam before middle after =
+    let long : (length before + length middle) - length before ≡ length middle = omega arith in
+    ap (λ (k : ℕ). take k (drop (length before) (before ++ (middle ++ after)))) long ∙ ap (λ (l : List ℕ). take (length middle) l) (drop-append_seam before (middle ++ after)) ∙ take-append_seam middle after
+
+-- from the end before it, or the begin of the row, to its own end
+spelled_from : (before : List ℕ) (ms : List Message) (i : ℕ) (m : Message) → slice_get ms i ≡ Some m
+    → slice_range (before ++ flat_map spelling ms) (get_or (length before ∷ ends_from (length before) ms) i 0) (get_or (ends_from (length before) ms) i 0) ≡ spelling m
+spelled_from before [] i m e = absurd (none-some m e)
+spelled_from before (n ∷ ms) zero m e = slice_seam before (spelling n) (flat_map spelling ms) ∙ ap spelling (some_same n m e)
+  where
+    some_same : (n m : Message) → Some n ≡ Some m → n ≡ m
+    some_same n m e = search rules
+spelled_from before (n ∷ ms) (suc i) m e =
+    let len : length (before ++ spelling n) ≡ length before + length (spelling n) = length-append before (spelling n) in
+    let rest = spelled_from (before ++ spelling n) ms i m e in
+    let there : slice_range (before ++ (spelling n ++ flat_map spelling ms)) (get_or (length (before ++ spelling n) ∷ ends_from (length (before ++ spelling n)) ms) i 0) (get_or (ends_from (length (before ++ spelling n)) ms) i 0) ≡ spelling m =
+    subst (λ (l : List ℕ). slice_range l (get_or (length (before ++ spelling n) ∷ ends_from (length (before ++ spelling n)) ms) i 0) (get_or (ends_from (length (before ++ spelling n)) ms) i 0) ≡ spelling m) (append_assoc before (spelling n) (flat_map spelling ms)) rest in
+    subst (λ (k : ℕ). slice_range (before ++ (spelling n ++ flat_map spelling ms)) (get_or (k ∷ ends_from k ms) i 0) (get_or (ends_from k ms) i 0) ≡ spelling m) len there
+
+-- the slice of a row at a place is the spelling of the packet there
+pub spelled_at : (es bs : List ℕ) (ms : List Message) (i : ℕ) (m : Message) → IsRow es bs ms → slice_get ms i ≡ Some m → slice_range bs (get_or (0 ∷ es) i 0) (get_or es i 0) ≡ spelling m
+spelled_at es bs ms i m h e =
+    rw (h.spelled, h.places) (spelled_from [] ms i m e)
 
 -- ---- what a row tells
 
-module _ (tells : (m : Message) → HasSpelling m → told (spelling m) ≡ m) where
-  told_behind : (at : ℕ) (ms : List Message) (front back : List ℕ) → at ≡ length front → All HasSpelling ms → told_from at (ends_from at ms) (front ++ (flat_map spelling ms ++ back)) ≡ ms
-  told_behind at [] front back is all = refl
-  told_behind at (m ∷ ms) front back is all =
-      let s = spelling m in
-      let rest = flat_map spelling ms in
-      let bytes : front ++ ((s ++ rest) ++ back) ≡ front ++ (s ++ (rest ++ back)) = ap (λ (l : List ℕ). front ++ l) (append_assoc s rest back) in
-      let moved : front ++ ((s ++ rest) ++ back) ≡ (front ++ s) ++ (rest ++ back) = bytes ∙ sym (append_assoc front s (rest ++ back)) in
-      let first : told (slice_range (front ++ ((s ++ rest) ++ back)) at (at + length s)) ≡ m =
-      ap (λ (l : List ℕ). told (slice_range l at (at + length s))) bytes ∙ ap told (part front s (rest ++ back) at is) ∙ tells m (all 0 m (omega arith)) in
-      let others : told_from (at + length s) (ends_from (at + length s) ms) (front ++ ((s ++ rest) ++ back)) ≡ ms =
-      ap (λ (l : List ℕ). told_from (at + length s) (ends_from (at + length s) ms) l) moved ∙ told_behind (at + length s) ms (front ++ s) back (omega (arith, length-append front s, is)) (λ k d lt. all (suc k) d (omega arith)) in
-      ap (λ (x : Message). x ∷ told_from (at + length s) (ends_from (at + length s) ms) (front ++ ((s ++ rest) ++ back))) first ∙ ap (λ (l : List Message). m ∷ l) others
+module _ (reading : (bytes : List ℕ) → IsBytes bytes → IsExact bytes (located (length bytes) (packet_of bytes))) (whole : (m : Message) → HasSpelling m → first_fault (spelling m) ≡ None)
+    (tells : (m n : Message) → HasSpelling m → HasSpelling n → spelling m ≡ spelling n → m ≡ n) where
+  read_back : (m : Message) (r : Result Message Fault) → HasSpelling m → IsExact (spelling m) (located (length (spelling m)) r) → read_or some_packet r ≡ m
+  read_back m (Ok p) h a = tells p m a.lawful h a.ok
+  read_back m (Err f) h a = absurd (no (a.exact.1 (whole m h)))
+    where
+      no : false ≡ true → ⊥
+      no e = search rules
 
-  -- a row of packets tells them
-  pub row_tells : (ends bytes : List ℕ) (ms : List Message) → IsRow ends bytes ms → told_from 0 ends bytes ≡ ms
-  row_tells ends bytes ms row =
-      ap (λ (l : List ℕ). told_from 0 l bytes) row.places ∙ ap (λ (l : List ℕ). told_from 0 (ends_from 0 ms) l) (row.spelled ∙ sym (append-nil (flat_map spelling ms))) ∙ told_behind 0 ms [] [] refl row.lawful
+  told_back : (m : Message) → HasSpelling m → told (spelling m) ≡ m
+  told_back m h = read_back m (packet_of (spelling m)) h (reading (spelling m) (bytes-spelling m h))
 
--- ---- rows that grow
+  told_behind : (before : List ℕ) (ms : List Message) → All HasSpelling ms → told_from (length before) (ends_from (length before) ms) (before ++ flat_map spelling ms) ≡ ms
+  told_behind before [] h = refl
+  told_behind before (m ∷ ms) h =
+      let first : told (slice_range (before ++ (spelling m ++ flat_map spelling ms)) (length before) (length before + length (spelling m))) ≡ m =
+      ap told (slice_seam before (spelling m) (flat_map spelling ms)) ∙ told_back m (h 0 m (omega arith)) in
+      let rest = told_behind (before ++ spelling m) ms (all_tail m ms h) in
+      let there : told_from (length (before ++ spelling m)) (ends_from (length (before ++ spelling m)) ms) (before ++ (spelling m ++ flat_map spelling ms)) ≡ ms =
+      subst (λ (l : List ℕ). told_from (length (before ++ spelling m)) (ends_from (length (before ++ spelling m)) ms) l ≡ ms) (append_assoc before (spelling m) (flat_map spelling ms)) rest in
+      let later : told_from (length before + length (spelling m)) (ends_from (length before + length (spelling m)) ms) (before ++ (spelling m ++ flat_map spelling ms)) ≡ ms =
+      subst (λ (k : ℕ). told_from k (ends_from k ms) (before ++ (spelling m ++ flat_map spelling ms)) ≡ ms) (length-append before (spelling m)) there in
+      ap (λ (x : Message). x ∷ told_from (length before + length (spelling m)) (ends_from (length before + length (spelling m)) ms) (before ++ (spelling m ++ flat_map spelling ms))) first ∙ ap (λ (l : List Message). m ∷ l) later
 
-pub row_nothing : IsRow [] [] []
-row_nothing = record { spelled = refl; places = refl; lawful = λ k d lt. absurd (omega arith) }
+  -- a row of packets tells those packets
+  pub row_tells : (es bs : List ℕ) (ms : List Message) → IsRow es bs ms → told_from 0 es bs ≡ ms
+  row_tells es bs ms h = ap (λ (l : List ℕ). told_from 0 l bs) h.places ∙ ap (λ (l : List ℕ). told_from 0 (ends_from 0 ms) l) h.spelled ∙ told_behind [] ms h.lawful
 
--- a row behind another, with its ends moved
-pub row_append : (ends bytes more_ends more : List ℕ) (ms ns : List Message) → IsRow ends bytes ms → IsRow more_ends more ns
-    → IsRow (ends ++ map (λ (end : ℕ). length bytes + end) more_ends) (bytes ++ more) (ms ++ ns)
-row_append ends bytes more_ends more ms ns row next = record {
-  spelled = ap (λ (l : List ℕ). l ++ more) row.spelled ∙ ap (λ (l : List ℕ). flat_map spelling ms ++ l) next.spelled ∙ sym (flat_map-append spelling ms ns);
-  places =
-    let zero-end : length bytes + 0 ≡ 0 + length (flat_map spelling ms) = omega (arith, ap length row.spelled) in
-    let moved : map (λ (end : ℕ). length bytes + end) more_ends ≡ ends_from (0 + length (flat_map spelling ms)) ns =
-    ap (map (λ (end : ℕ). length bytes + end)) next.places ∙ ends_moved (length bytes) 0 ns ∙ ap (λ (k : ℕ). ends_from k ns) zero-end in
-    ap (λ (l : List ℕ). l ++ map (λ (end : ℕ). length bytes + end) more_ends) row.places ∙ ap (λ (l : List ℕ). ends_from 0 ms ++ l) moved ∙ sym (ends_append 0 ms ns);
-  lawful = All-append HasSpelling ms ns row.lawful next.lawful;
-}
+-- ---- rows that were changed
 
-pub row_one : (m : Message) → HasSpelling m → IsRow (length (spelling m) ∷ []) (spelling m) (m ∷ [])
-row_one m lawful = record { spelled = sym (append-nil (spelling m)); places = (let e : length (spelling m) ≡ 0 + length (spelling m) = omega arith in ap (λ (k : ℕ). k ∷ []) e); lawful = one }
-  where
-    one : All HasSpelling (m ∷ [])
-    one zero d lt = lawful
-    one (suc k) d lt = absurd (omega arith)
+-- the bytes are a row, and tell these packets
+pub record Tells (es bs : List ℕ) (ms : List Message) : Type 0 where
+  pub row : IsRow es bs (told_from 0 es bs)
+  pub same : told_from 0 es bs ≡ ms
+
+module _ (law : (ends bytes : List ℕ) (packets : List Message) → IsRow ends bytes packets → told_from 0 ends bytes ≡ packets) where
+  tells_those : (es bs : List ℕ) (ms : List Message) → IsRow es bs ms → Tells es bs ms
+  tells_those es bs ms h =
+      let is : told_from 0 es bs ≡ ms = law es bs ms h in
+      record { row = subst (λ (l : List Message). IsRow es bs l) (sym is) h; same = is }
+
+  -- one more packet
+  pub tells_more : (es bs fs cs : List ℕ) (m : Message) → IsRow es bs (told_from 0 es bs) → HasSpelling m → cs ≡ bs ++ spelling m → fs ≡ es ++ length cs ∷ [] → Tells fs cs (told_from 0 es bs ++ m ∷ [])
+  tells_more es bs fs cs m h k bytes ends =
+      tells_those fs cs (told_from 0 es bs ++ m ∷ []) (rw (ends, bytes) (row_more es bs (told_from 0 es bs) m h k))
+
+  -- the packets of another row
+  pub tells_all : (es bs fs cs more : List ℕ) (ns : List Message) → IsRow es bs (told_from 0 es bs) → IsRow more (flat_map spelling ns) ns → cs ≡ bs ++ flat_map spelling ns → fs ≡ es ++ map (λ (e : ℕ). length bs + e) more
+      → Tells fs cs (told_from 0 es bs ++ ns)
+  tells_all es bs fs cs more ns h k bytes ends =
+      tells_those fs cs (told_from 0 es bs ++ ns) (rw (ends, bytes) (rows_then es bs more (flat_map spelling ns) (told_from 0 es bs) ns h k))

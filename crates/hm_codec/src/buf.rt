@@ -60,7 +60,8 @@ impl<const N: usize> Buf<N> {
     /// How many bytes there are.
     #[inline(always)]
     pub(crate) fn len(&self) -> usize
-        ensures { result ≡ length self.now }
+        ensures value { result ≡ length self.now }
+        ensures fits { result ≤ N }
     {
         self.len
     }

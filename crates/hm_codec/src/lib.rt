@@ -7,6 +7,7 @@ pub mod buf;
 pub mod decode;
 pub mod encode;
 mod kinds;
+mod laws;
 pub mod outs;
 mod parts;
 pub mod spellings;

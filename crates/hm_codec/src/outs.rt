@@ -5,6 +5,7 @@ ghost use Rattle.hm_codec.specs.Rows.{ends_from};
 
 use crate::buf::Buf;
 use crate::encode::push_packet;
+use crate::laws::{row_is_short, row_tells_its_packets};
 use arrayvec::ArrayVec;
 use hm_packet::acted::MAX_OUTS;
 use hm_packet::packet::Packet;
@@ -72,6 +73,8 @@ impl Outs {
             return Err(ListFull);
         }
         spelling_is_short();
+        row_is_short();
+        row_tells_its_packets();
         push_packet(packet, &mut self.spelled);
         self.ends.push(self.spelled.len() as u32);
         Ok(())

@@ -3,6 +3,7 @@ ghost use Rattle.hm_base.specs.Logs.{max_page_len};
 ghost use Rattle.hm_base.specs.Padded.{max_value_len};
 ghost use Rattle.hm_base.specs.Rising.{IsMembers};
 ghost use Rattle.hm_packet.specs.Messages.{IsLawfulNode};
+ghost use Rattle.hm_wire.specs.Grammar as grammar;
 ghost use Rattle.hm_wire.specs.Grammar.{spelled};
 ghost use Rattle.hm_wire.specs.Grammar.Size.{U32, U64};
 ghost use Rattle.hm_wire.specs.Packets.{node_fields, value_fields, answer_fields, act_fields, entry_fields, many, page_fields, members_fields, node_numbers, value_numbers, answer_numbers, act_numbers, entry_numbers, page_numbers, members_numbers, stamp_fields, stamp_numbers, replica_field};
@@ -18,6 +19,7 @@ use hm_base::value::Value;
 /// Appends a `u32`.
 #[inline(always)]
 pub(crate) fn push_u32<const N: usize>(number: u32, buf: &mut Buf<N>)
+    ensures writes { Writes N (grammar.number U32) (number ∷ []) buf.old buf.new }
     ensures adds { Adds N buf.old buf.new (spelled U32 number) }
     ensures range { number < 2 ^ 32 }
 {
@@ -27,6 +29,7 @@ pub(crate) fn push_u32<const N: usize>(number: u32, buf: &mut Buf<N>)
 /// Appends a `u64`.
 #[inline(always)]
 pub(crate) fn push_u64<const N: usize>(number: u64, buf: &mut Buf<N>)
+    ensures writes { Writes N (grammar.number U64) (number ∷ []) buf.old buf.new }
     ensures adds { Adds N buf.old buf.new (spelled U64 number) }
     ensures range { number < 2 ^ 64 }
 {

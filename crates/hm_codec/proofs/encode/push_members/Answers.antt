@@ -1,5 +1,0 @@
-use Rattle.hm_codec.proofs.Writers.{writes_members}
-use Rattle.hm_codec.proofs.encode.push_members.Goals as goal
-
-pub returns : goal.returns
-returns c = writes_members c.args.members.now c.args.buf.now c.push.new.self c.push-2.new.self c.requires c.push.ensures c.push-2.ensures
