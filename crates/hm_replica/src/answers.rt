@@ -36,7 +36,8 @@ pub fn push_answers(outs: &mut Outs, me: u8, shim: &Shim, from: u32, to: u32)
     requires rises { from ≤ to }
     requires within { to ≤ length shim.now.entries }
     requires room { length outs.old + steps.max_answered ≤ max_outs }
-    ensures { outs.new ≡ outs.old ++ steps.answers (with_log me shim.now) from to }
+    ensures value { outs.new ≡ outs.old ++ steps.answers (with_log me shim.now) from to }
+    ensures few { length outs.new ≤ length outs.old + steps.max_answered }
 {
     let first = from.max(to.saturating_sub(MAX_ANSWERED));
     push_answers_to(outs, me, shim, shim.log().entries(first, to));
@@ -51,6 +52,7 @@ pub fn declare(acted: &mut Acted, me: u8, shim: &mut Shim, from: u32, to: u32)
     requires room { length acted.old.outs + steps.max_answered ≤ max_outs }
     ensures shim { shim.new ≡ record shim.old { applied = to } }
     ensures acted { acted.new ≡ record acted.old { outs = acted.old.outs ++ steps.answers (with_log me (record shim.old { applied = to })) from to; declared = record { from = from; to = to } } }
+    ensures few { length acted.new.outs ≤ length acted.old.outs + steps.max_answered }
 {
     shim.apply_to(to);
     push_answers(&mut acted.outs, me, shim, from, to);
