@@ -16,12 +16,17 @@ use std::alloc::Global;
 use std::process::Abort;
 use std::test::Fail;
 
-const ONE: Stamp = Stamp { switch: 1, seq: 1 };
+pub(crate) const ONE: Stamp = Stamp { switch: 1, seq: 1 };
 
 const TWO: Stamp = Stamp { switch: 1, seq: 2 };
 
 /// Asserts that a step sent packets of which the last has this text.
-fn assert_last(rt: &impl Abort, alloc: Global, acted: &Acted, text: &[u8]) -> Result<(), Fail> {
+pub(crate) fn assert_last(
+    rt: &impl Abort,
+    alloc: Global,
+    acted: &Acted,
+    text: &[u8],
+) -> Result<(), Fail> {
     let mut out = Vec::new(alloc);
     let last = acted.outs.len().saturating_sub(1);
     write_packet(acted.outs.get(last).ok_or("a packet")?, &mut out)?;
@@ -39,7 +44,7 @@ fn member_of_three(alloc: Global, me: u8) -> Result<Chain, Fail>
     Ok(Chain::open(alloc, me, &members, 16)?)
 }
 
-fn from_switch(me: u8, body: Body) -> Packet
+pub(crate) fn from_switch(me: u8, body: Body) -> Packet
     requires { me ≤ 6 }
 {
     Packet {
@@ -50,7 +55,7 @@ fn from_switch(me: u8, body: Body) -> Packet
 }
 
 /// A page of one write from replica 0 to replica 1.
-fn page_of_one(first: u32, stamp: Stamp, request: u64, value: Value) -> Packet {
+pub(crate) fn page_of_one(first: u32, stamp: Stamp, request: u64, value: Value) -> Packet {
     let mut entries = Entries::new();
     let _ = entries.try_push(Entry {
         stamp,
