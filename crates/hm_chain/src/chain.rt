@@ -19,16 +19,13 @@ use hm_codec::acted::Acted;
 use hm_codec::outs::Outs;
 use hm_feed::follower::{Took, take};
 use hm_feed::sender::Sender;
-use hm_packet::acted::Declared;
-use hm_packet::body::{
-    Ask, Body, Config, FastRead, Feed, FeedAck, NormalRead, Put, Refuse, Refused,
-};
+use hm_packet::body::{Ask, Body, Config, FastRead, Feed, FeedAck, NormalRead, Put, Refuse};
 use hm_packet::packet::Packet;
-use hm_replica::acts::{ignore, log_full, push, send_none, send_one};
-use hm_replica::answers::push_answers;
+use hm_replica::acts::{ignore, log_full, push, refuse, send_none, send_one};
+use hm_replica::answers::declare;
 use hm_replica::group::{first_member, is_member, last_member};
 use hm_replica::law::{refused_packets_are_ignored, steps_give_their_parts};
-use hm_replica::packets::{done_packet, entry_of, packet_from, reply_packet};
+use hm_replica::packets::{as_normal, done_packet, entry_of, packet_from, reply_packet};
 use hm_replica::senders::{number, refusal};
 use hm_shim::shim::{Local, Shim, reply_to};
 use std::alloc::Global;
@@ -168,14 +165,7 @@ impl Chain {
     {
         match self.shim.read_ahead(read) {
             Local::Answer(reply) => send_one(acted, &reply_packet(self.me, read.client, reply)),
-            Local::Pass => {
-                let normal = NormalRead {
-                    client: read.client,
-                    request: read.request,
-                    object: read.object,
-                };
-                self.read_at_tail(&normal, acted);
-            }
+            Local::Pass => self.read_at_tail(&as_normal(read), acted),
         }
     }
 
@@ -254,17 +244,13 @@ impl Chain {
     }
 
     /// Nothing more is taken of a switch and of those before it.
-    fn on_refuse(&mut self, refuse: &Refuse, acted: &mut Acted)
-        ensures { step_of self.new acted.new ≡ steps.on_refuse self.old refuse.now }
+    fn on_refuse(&mut self, told: &Refuse, acted: &mut Acted)
+        ensures { step_of self.new acted.new ≡ steps.on_refuse self.old told.now }
     {
-        if refuse.switch == u32::MAX {
+        if told.switch == u32::MAX {
             return ignore(acted, Why::Foreign);
         }
-        let _ = self.shim.refuse(refuse.switch);
-        let refused = Body::Refused(Refused {
-            switch: refuse.switch,
-        });
-        send_one(acted, &packet_from(self.me, Node::Config, refused));
+        refuse(acted, self.me, &mut self.shim, told.switch);
     }
 
     /// A write that the log has at this index: the tail completes it again, another head asks the tail to.
@@ -368,9 +354,7 @@ impl Chain {
         ensures { step_of self.new acted.new ≡ steps.sends_first acted.old.outs (steps.declares self.old from (length self.old.log)) }
     {
         let to = self.shim.log().len();
-        self.shim.apply_to(to);
-        push_answers(&mut acted.outs, self.me, &self.shim, from, to);
-        acted.declared = Declared { from, to };
+        declare(acted, self.me, &mut self.shim, from, to);
     }
 
     /// Completes the entry at an index again, if there is one.

@@ -47,6 +47,20 @@ impl Sender {
         self.view
     }
 
+    /// How long the log was with which the view began.
+    pub fn start(&self) -> u32
+        ensures { result ≡ self.now.start }
+    {
+        self.start
+    }
+
+    /// A later view, in which this replica sends no pages: what it keeps of those that follow is as before.
+    pub fn enter(&mut self, view: u32)
+        ensures { self.new ≡ record self.old { view = view } }
+    {
+        self.view = view;
+    }
+
     /// The page of the log for a replica: what it hasn't acknowledged yet, at most a page.
     pub fn page<'a>(&self, log: &'a Ledger, commit: u32, to: u8) -> Feed<'a>
         requires { to ≤ 6 }

@@ -1,13 +1,19 @@
-ghost use Rattle.std.specs.Prelude.{◌≡◌, ◌<◌, [], ◌∷◌, ◌++◌, length};
+ghost use Rattle.std.specs.Prelude.{◌≡◌, ◌<◌, ◌≤◌, ◌+◌, ◌^◌, max, [], ◌∷◌, ◌++◌, length};
+ghost use Rattle.hm_base.specs.declared.node.Node.TheVariants as node;
 ghost use Rattle.hm_packet.specs.Steps.{max_outs};
+ghost use Rattle.hm_packet.specs.declared.body.Body.TheVariants as body;
 ghost use Rattle.hm_rules.specs.ReplicaSteps.{nothing};
 ghost use Rattle.hm_replica.specs.Steps.{ignored_act, log_full_act, sends_act};
 
+use crate::packets::packet_from;
+use hm_base::node::Node;
 use hm_base::why::Why;
 use hm_codec::acted::Acted;
 use hm_codec::outs::Outs;
 use hm_packet::acted::{Declared, Did};
+use hm_packet::body::{Body, Refused};
 use hm_packet::packet::Packet;
+use hm_shim::shim::Shim;
 
 /// The empty range of a log.
 const NOTHING: Declared = Declared { from: 0, to: 0 };
@@ -54,6 +60,18 @@ pub fn send_one(acted: &mut Acted, packet: &Packet)
 {
     send_none(acted);
     push(&mut acted.outs, packet);
+}
+
+/// Nothing more is taken of a switch and of those before it, which is told to the service each time that it asks.
+pub fn refuse(acted: &mut Acted, me: u8, shim: &mut Shim, switch: u32)
+    requires me { me ≤ 6 }
+    requires next { switch + 1 < 2 ^ 32 }
+    ensures shim { shim.new ≡ record shim.old { accepted = max shim.old.accepted (switch + 1) } }
+    ensures acted { acted.new ≡ sends_act (record { src = node.Replica me; dst = node.Config; body = body.Refused (record { switch = switch }) } ∷ []) }
+{
+    let _ = shim.refuse(switch);
+    let refused = Body::Refused(Refused { switch });
+    send_one(acted, &packet_from(me, Node::Config, refused));
 }
 
 /// A step that sends and declares nothing ends so.

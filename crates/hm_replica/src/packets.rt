@@ -6,7 +6,7 @@ ghost use Rattle.hm_rules.specs.ReplicaSteps as steps;
 
 use hm_base::entry::{Act, Entry};
 use hm_base::node::Node;
-use hm_packet::body::{Body, Done, Put, Reply};
+use hm_packet::body::{Body, Done, FastRead, NormalRead, Put, Reply};
 use hm_packet::packet::Packet;
 
 /// A packet from a replica.
@@ -57,5 +57,16 @@ pub fn entry_of(put: &Put) -> Entry
         request: put.request,
         object: put.object,
         act: Act::Put(put.value),
+    }
+}
+
+/// The normal read that a stamped read becomes where the test on its stamp fails.
+pub fn as_normal(read: &FastRead) -> NormalRead
+    ensures { result ≡ steps.as_normal read.now }
+{
+    NormalRead {
+        client: read.client,
+        request: read.request,
+        object: read.object,
     }
 }

@@ -1,5 +1,5 @@
 -- Lines of a schedule, and one line more.
-use Rattle.std.proofs.Common.{◌≡◌, ℕ, ◌+◌, ◌<◌, ◌≤◌, List, [], ◌∷◌, ◌++◌, length, None, refl, sym, ap, ◌∙◌, arith, lit<, lit≤}
+use Rattle.std.proofs.Common.{◌≡◌, ◌≢◌, ℕ, ◌+◌, ◌<◌, ◌≤◌, List, [], ◌∷◌, ◌++◌, length, None, refl, sym, ap, ◌∙◌, arith, lit<, lit≤}
 use Rattle.std.specs.Prelude.{fold, filter_map}
 use Rattle.std.proofs.lemmas.List.{append-nil, length-append}
 use Rattle.std.proofs.lemmas.List.Elements.{filter_map-append}
@@ -110,23 +110,29 @@ few_events (Stage.Running events) e may = may
 pub event_push : (lines : List Line) (e : Event) → events_in (lines ++ line.Event e ∷ []) ≡ events_in lines ++ event_of e ∷ []
 event_push lines e = events_push lines (line.Event e)
 
--- ---- the group is a chain
+-- ---- no group of Viewstamped Replication is read
 
-set_kind : (s : rule.Setup) (l : Line) → IsLawful l → s.kind ≡ kind.Chain → (set_by s l).kind ≡ kind.Chain
-set_kind s (line.Group kind.Chain size) lawful chain = refl
-set_kind s (line.Group kind.Primary size) lawful chain = absurd lawful
-set_kind s (line.Group kind.Vr size) lawful chain = absurd lawful
-set_kind s (line.Table stages bits) lawful chain = chain
-set_kind s (line.Life life) lawful chain = chain
-set_kind s (line.Log entries) lawful chain = chain
-set_kind s (line.Event e) lawful chain = chain
+chain_is_vr : kind.Chain ≡ kind.Vr → ⊥
+chain_is_vr same = cc
 
-fold_kind : (stage : Stage) (s : rule.Setup) (lines : List Line) → ComeFrom stage lines → s.kind ≡ kind.Chain → (fold set_by s lines).kind ≡ kind.Chain
-fold_kind stage s [] come chain = chain
-fold_kind stage s (l ∷ ls) come chain = fold_kind (after stage l) (set_by s l) ls come.1 (set_kind s l come.0.0 chain)
+primary_is_vr : kind.Primary ≡ kind.Vr → ⊥
+primary_is_vr same = cc
 
-pub setup_is_chain : (lines : List Line) → IsBegun lines → (setup_in lines).kind ≡ kind.Chain
-setup_is_chain lines begun = fold_kind Stage.Fresh (default_setup kind.Chain 1) lines begun refl
+set_kind : (s : rule.Setup) (l : Line) → IsLawful l → s.kind ≢ kind.Vr → (set_by s l).kind ≢ kind.Vr
+set_kind s (line.Group kind.Chain size) lawful other = chain_is_vr
+set_kind s (line.Group kind.Primary size) lawful other = primary_is_vr
+set_kind s (line.Group kind.Vr size) lawful other = absurd lawful
+set_kind s (line.Table stages bits) lawful other = other
+set_kind s (line.Life life) lawful other = other
+set_kind s (line.Log entries) lawful other = other
+set_kind s (line.Event e) lawful other = other
+
+fold_kind : (stage : Stage) (s : rule.Setup) (lines : List Line) → ComeFrom stage lines → s.kind ≢ kind.Vr → (fold set_by s lines).kind ≢ kind.Vr
+fold_kind stage s [] come other = other
+fold_kind stage s (l ∷ ls) come other = fold_kind (after stage l) (set_by s l) ls come.1 (set_kind s l come.0.0 other)
+
+pub setup_is_no_vr : (lines : List Line) → IsBegun lines → (setup_in lines).kind ≢ kind.Vr
+setup_is_no_vr lines begun = fold_kind Stage.Fresh (default_setup kind.Chain 1) lines begun chain_is_vr
 
 -- ---- events counted
 

@@ -1,16 +1,18 @@
--- The first words of lines.
-use Rattle.std.proofs.Common.{◌≡◌, ℕ, Bool, true, false, eqb, List, [], ◌∷◌, ◌++◌, Option, Some, None, refl, sym, ap, ◌∙◌, lit<}
+-- The first words of lines, and the words for protocols.
+use Rattle.std.proofs.Common.{◌≡◌, ◌≢◌, ℕ, ◌≤◌, Bool, true, false, eqb, List, [], ◌∷◌, ◌++◌, Option, Some, None, refl, sym, ap, ◌∙◌, lit<}
 use Rattle.std.specs.Prelude.{codes, bytes_eq, if◌then◌else◌}
 use Rattle.std.specs.Cmp.Lexicographic.{pointwise}
 use Rattle.std.specs.List.{AllByRecursion}
 use Rattle.std.proofs.lemmas.Bool.Decides.{Decides-eqb}
 use Rattle.std.proofs.lemmas.Slice.Eq.{slice_eq-Decides, bytes_eq-Decides}
 use Rattle.std.proofs.lemmas.List.Elements.{All-from_recursion}
-use Rattle.std.proofs.lemmas.Option.{same_Some}
+use Rattle.std.proofs.lemmas.Option.{same_Some, none-some}
 use Rattle.hm_base.specs.Spellings.{spaced}
+use Rattle.hm_base.specs.declared.node.GroupKind.{GroupKind}
+use Rattle.hm_base.specs.declared.node.GroupKind.TheVariants as kind
 use Rattle.hm_schedule.specs.LineWords.{IsWord, IsWordEnd, SplitsWord}
-use Rattle.hm_schedule.specs.Names.{keyword_text, rarely_named, named}
-use Rattle.hm_schedule.specs.Schedules.{keyword_in, field_words, line_text}
+use Rattle.hm_schedule.specs.Names.{keyword_text, rarely_named, named, kind_text, kind_named}
+use Rattle.hm_schedule.specs.Schedules.{IsLawfulGroup, keyword_in, field_words, line_text}
 use Rattle.hm_schedule.specs.Reads.{Reads}
 use Rattle.hm_schedule.specs.declared.keyword.Keyword.{Keyword}
 use Rattle.hm_schedule.specs.declared.keyword.Keyword.TheVariants as keyword
@@ -98,9 +100,6 @@ visible_keyword keyword.Stop = letters (codes "stop") (lit< tt, (lit< tt, (lit< 
 visible_keyword keyword.Remove = letters (codes "remove") (lit< tt, (lit< tt, (lit< tt, (lit< tt, (lit< tt, (lit< tt, tt))))))
 visible_keyword keyword.Timeout = letters (codes "timeout") (lit< tt, (lit< tt, (lit< tt, (lit< tt, (lit< tt, (lit< tt, (lit< tt, tt)))))))
 
-pub word_of_chain : IsWord (codes "chain")
-word_of_chain = word_from_visible (codes "chain") (letters (codes "chain") (lit< tt, (lit< tt, (lit< tt, (lit< tt, (lit< tt, tt))))))
-
 spaced_ends : (words : List (List ℕ)) → IsWordEnd (spaced words)
 spaced_ends [] = tt
 spaced_ends (w ∷ ws) = refl
@@ -124,3 +123,41 @@ pub no_keyword : (bytes word fields : List ℕ) (l : Line) → SplitsWord bytes 
 no_keyword bytes word fields l split none same =
     let is : named word ≡ Some (keyword_in l) = ap named (splits_line bytes word fields l split same).0 ∙ named_keyword (keyword_in l) in
     cc
+
+-- ---- protocols are words
+
+pub word_of_kind : (k : GroupKind) → IsWord (kind_text k)
+word_of_kind kind.Chain = word_from_visible (codes "chain") (letters (codes "chain") (lit< tt, (lit< tt, (lit< tt, (lit< tt, (lit< tt, tt))))))
+word_of_kind kind.Primary = word_from_visible (codes "primary") (letters (codes "primary") (lit< tt, (lit< tt, (lit< tt, (lit< tt, (lit< tt, (lit< tt, (lit< tt, tt))))))))
+word_of_kind kind.Vr = word_from_visible (codes "vr") (letters (codes "vr") (lit< tt, (lit< tt, tt)))
+
+-- each of those that are built is the one that is named so
+pub named_kind : (k : GroupKind) → k ≢ kind.Vr → kind_named (kind_text k) ≡ Some k
+named_kind kind.Chain other = refl
+named_kind kind.Primary other = refl
+named_kind kind.Vr other = absurd (other refl)
+
+chain_or_primary : (word : List ℕ) (k : GroupKind) (first second : Bool) → first ≡ bytes_eq word (codes "chain") → second ≡ bytes_eq word (codes "primary")
+    → (if first then Some kind.Chain else if second then Some kind.Primary else None) ≡ Some k → (word ≡ kind_text k) × (k ≢ kind.Vr)
+chain_or_primary word k true second is of same =
+    let one : kind.Chain ≡ k = same_Some kind.Chain k same in
+    ((bytes_eq-Decides word (codes "chain")).0 (sym is) ∙ ap kind_text one, λ vr. let no : kind.Chain ≡ kind.Vr = one ∙ vr in cc)
+chain_or_primary word k false true is of same =
+    let one : kind.Primary ≡ k = same_Some kind.Primary k same in
+    ((bytes_eq-Decides word (codes "primary")).0 (sym of) ∙ ap kind_text one, λ vr. let no : kind.Primary ≡ kind.Vr = one ∙ vr in cc)
+chain_or_primary word k false false is of same = absurd (none-some k same)
+
+-- a word that names a protocol is its text
+pub kind_spells : (word : List ℕ) (k : GroupKind) → kind_named word ≡ Some k → (word ≡ kind_text k) × (k ≢ kind.Vr)
+kind_spells word k same = chain_or_primary word k (bytes_eq word (codes "chain")) (bytes_eq word (codes "primary")) refl refl same
+
+-- a group of one to seven of a protocol that is built
+pub group_lawful : (k : GroupKind) (size : ℕ) → k ≢ kind.Vr → 1 ≤ size → size ≤ 7 → IsLawfulGroup k size
+group_lawful kind.Chain size other some few = (some, few)
+group_lawful kind.Primary size other some few = (some, few)
+group_lawful kind.Vr size other some few = absurd (other refl)
+
+pub lawful_group : (k : GroupKind) (size : ℕ) → IsLawfulGroup k size → (k ≢ kind.Vr) × ((1 ≤ size) × (size ≤ 7))
+lawful_group kind.Chain size lawful = (λ same. cc, lawful)
+lawful_group kind.Primary size lawful = (λ same. cc, lawful)
+lawful_group kind.Vr size lawful = absurd lawful

@@ -1,5 +1,7 @@
--- The first words of lines.
+-- The first words of lines, and the words for protocols.
 use Rattle.std.specs.Prelude.{ℕ, if◌then◌else◌, List, bytes_eq, codes, Option, Some, None}
+use Rattle.hm_base.specs.declared.node.GroupKind.{GroupKind}
+use Rattle.hm_base.specs.declared.node.GroupKind.TheVariants as kind
 use Rattle.hm_schedule.specs.declared.keyword.Keyword.{Keyword}
 use Rattle.hm_schedule.specs.declared.keyword.Keyword.TheVariants as keyword
 
@@ -41,3 +43,15 @@ named word =
     else if bytes_eq word (codes "deliver") then Some keyword.Deliver
     else if bytes_eq word (codes "drop") then Some keyword.Drop
     else rarely_named word
+
+abbrev pub kind_text : GroupKind → List ℕ
+kind_text kind.Chain = codes "chain"
+kind_text kind.Primary = codes "primary"
+kind_text kind.Vr = codes "vr"
+
+-- the protocol that is this word, of those that are built so far
+abbrev pub kind_named : List ℕ → Option GroupKind
+kind_named word =
+    if bytes_eq word (codes "chain") then Some kind.Chain
+    else if bytes_eq word (codes "primary") then Some kind.Primary
+    else None

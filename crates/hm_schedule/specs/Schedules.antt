@@ -1,21 +1,16 @@
 -- The lines of a schedule, and their one spelling.
-use Rattle.std.specs.Prelude.{ℕ, ◌^◌, ◌<◌, ◌≤◌, List, [], ◌∷◌, codes, decimal}
+use Rattle.std.specs.Prelude.{ℕ, ◌^◌, ◌<◌, ◌≤◌, List, [], ◌∷◌, decimal}
 use Rattle.hm_base.specs.Spellings.{joined, value_text}
 use Rattle.hm_base.specs.declared.node.GroupKind.{GroupKind}
 use Rattle.hm_base.specs.declared.node.GroupKind.TheVariants as kind
 use Rattle.hm_schedule.specs.declared.event.Event.{Event}
 use Rattle.hm_schedule.specs.declared.event.Event.TheVariants as event
 use Rattle.hm_schedule.specs.Ranges.{IsSwitch, IsValue, IsTable, IsLife, IsCapacity}
-use Rattle.hm_schedule.specs.Names.{keyword_text}
+use Rattle.hm_schedule.specs.Names.{keyword_text, kind_text}
 use Rattle.hm_schedule.specs.declared.keyword.Keyword.{Keyword}
 use Rattle.hm_schedule.specs.declared.keyword.Keyword.TheVariants as keyword
 use Rattle.hm_schedule.specs.declared.line.Line.{Line}
 use Rattle.hm_schedule.specs.declared.line.Line.TheVariants as line
-
-abbrev pub kind_text : GroupKind → List ℕ
-kind_text kind.Chain = codes "chain"
-kind_text kind.Primary = codes "primary"
-kind_text kind.Vr = codes "vr"
 
 abbrev pub event_keyword : Event → Keyword
 event_keyword (event.Write client object value switch) = keyword.Write
@@ -92,10 +87,10 @@ IsLawfulEvent (event.Stop replica) = replica ≤ 6
 IsLawfulEvent (event.Remove replica) = replica ≤ 6
 IsLawfulEvent (event.Timeout replica) = ⊥
 
--- a chain of one to seven: no other group is built yet
+-- a chain or a primary-backup group of one to seven: no other group is built yet
 abbrev pub IsLawfulGroup : GroupKind → ℕ → Type 0
 IsLawfulGroup kind.Chain size = (1 ≤ size) × (size ≤ 7)
-IsLawfulGroup kind.Primary size = ⊥
+IsLawfulGroup kind.Primary size = (1 ≤ size) × (size ≤ 7)
 IsLawfulGroup kind.Vr size = ⊥
 
 abbrev pub IsLawful : Line → Type 0

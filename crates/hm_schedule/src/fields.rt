@@ -1,8 +1,12 @@
-ghost use Rattle.std.specs.Prelude.{◌≡◌, ◌≢◌, ◌^◌, ◌<◌, ◌≤◌, ℕ, List, ◌∷◌, ◌++◌, IfSome, IfNone, IsSomeAnd, IsTrue, ◌↔◌, codes, decimal};
+ghost use Rattle.std.specs.Prelude.{◌≡◌, ◌≢◌, ◌^◌, ◌<◌, ◌≤◌, ℕ, List, ◌∷◌, ◌++◌, IfSome, IfNone, IsSomeAnd, IsTrue, ◌↔◌, decimal};
 ghost use Rattle.hm_base.specs.Spellings.{value_text};
+ghost use Rattle.hm_base.specs.declared.node.GroupKind.{GroupKind};
+ghost use Rattle.hm_base.specs.declared.node.GroupKind.TheVariants.{Vr};
 ghost use Rattle.hm_schedule.specs.LineWords.{IsDigit, IsWord, IsWordEnd, SplitsWord};
+ghost use Rattle.hm_schedule.specs.Names.{kind_text, kind_named};
 ghost use Rattle.hm_schedule.specs.Ranges.{IsValue};
 
+use hm_base::node::GroupKind;
 use hm_base::spelling::read_value;
 use hm_base::value::Value;
 use memchr::memchr;
@@ -107,19 +111,30 @@ pub(crate) fn next_small(text: &[u8], most: u8) -> Option<(u8, &[u8])>
     }
 }
 
-/// What stands behind a space and the word `chain`. None exactly for any other text.
-pub(crate) fn next_chain(text: &[u8]) -> Option<&[u8]>
-    ensures some { IfSome result (λ rest. text.now ≡ 32 ∷ (codes "chain" ++ rest.now)) }
-    ensures only { (rest : List ℕ) → IsWordEnd rest → text.now ≡ 32 ∷ (codes "chain" ++ rest) → IsSomeAnd result (λ found. found.now ≡ rest) }
+/// The protocol that a word names, of those that are built so far. None exactly for any other word.
+fn kind_of(word: &[u8]) -> Option<GroupKind>
+    ensures { result ≡ kind_named word.now }
+{
+    if word == b"chain".as_slice() {
+        Some(GroupKind::Chain)
+    } else if word == b"primary".as_slice() {
+        Some(GroupKind::Primary)
+    } else {
+        None
+    }
+}
+
+/// The protocol behind a space, and the rest. None exactly for any other text.
+pub(crate) fn next_kind(text: &[u8]) -> Option<(GroupKind, &[u8])>
+    ensures some { IfSome result (λ found. (text.now ≡ 32 ∷ (kind_text found.0 ++ found.1.now)) × (found.0 ≢ Vr)) }
+    ensures only { (kind : GroupKind) → (rest : List ℕ) → kind ≢ Vr → IsWordEnd rest → text.now ≡ 32 ∷ (kind_text kind ++ rest)
+        → IsSomeAnd result (λ found. (found.0 ≡ kind) × (found.1.now ≡ rest)) }
 {
     match next_word(text) {
-        Some((word, rest)) => {
-            if word == b"chain".as_slice() {
-                Some(rest)
-            } else {
-                None
-            }
-        }
+        Some((word, rest)) => match kind_of(word) {
+            Some(kind) => Some((kind, rest)),
+            None => None,
+        },
         None => None,
     }
 }

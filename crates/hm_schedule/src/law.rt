@@ -1,13 +1,13 @@
-ghost use Rattle.std.specs.Prelude.{◌≡◌, ℕ, List, length};
-ghost use Rattle.hm_base.specs.declared.node.GroupKind.TheVariants.{Chain};
+ghost use Rattle.std.specs.Prelude.{◌≡◌, ◌≢◌, ℕ, List, length};
+ghost use Rattle.hm_base.specs.declared.node.GroupKind.TheVariants.{Vr};
 ghost use Rattle.hm_schedule.specs.Fronts.{GrowsByLines};
 ghost use Rattle.hm_schedule.specs.Orders.{IsBegun, IsSchedule, BreaksOff, lines_text, setup_in};
 ghost use Rattle.hm_schedule.specs.declared.line.Line.{Line};
 
-/// What one line more adds to a schedule's front. Its group is a chain, as no other is read.
+/// What one line more adds to a schedule's front. Its group isn't one of Viewstamped Replication, as none is read yet.
 pub fn schedules_grow_by_lines()
     ensures grow { GrowsByLines }
-    ensures chain { (lines : List Line) → IsBegun lines → (setup_in lines).kind ≡ Chain }
+    ensures kind { (lines : List Line) → IsBegun lines → (setup_in lines).kind ≢ Vr }
 {}
 
 /// Bytes that break off do so behind one number of lines, and a schedule's bytes nowhere.

@@ -1,18 +1,18 @@
 //! The fields behind a line's first word.
 
-ghost use Rattle.std.specs.Prelude.{◌≡◌, ◌<◌, ◌≤◌, ◌^◌, ℕ, List, [], ◌∷◌, Some, IfSome, codes, decimal};
+ghost use Rattle.std.specs.Prelude.{◌≡◌, ◌<◌, ◌≤◌, ◌^◌, ℕ, List, [], ◌∷◌, Some, IfSome, decimal};
 ghost use Rattle.hm_base.specs.Spellings.{spaced, value_text};
-ghost use Rattle.hm_base.specs.declared.node.GroupKind.TheVariants.{Chain};
+ghost use Rattle.hm_base.specs.declared.node.GroupKind.{GroupKind};
 ghost use Rattle.hm_schedule.specs.declared.event.Event.TheVariants as event;
+ghost use Rattle.hm_schedule.specs.Names.{kind_text};
 ghost use Rattle.hm_schedule.specs.Ranges.{IsTable, IsLife, IsCapacity};
 ghost use Rattle.hm_schedule.specs.Reads.{Reads};
-ghost use Rattle.hm_schedule.specs.Schedules.{IsWrite, IsRead, IsResend, IsLawful, keyword_in, field_words};
+ghost use Rattle.hm_schedule.specs.Schedules.{IsWrite, IsRead, IsResend, IsLawful, IsLawfulGroup, keyword_in, field_words};
 
 use crate::event::Event;
-use crate::fields::{next_chain, next_number, next_small, next_value};
+use crate::fields::{next_kind, next_number, next_small, next_value};
 use crate::keyword::Keyword;
 use crate::line::Line;
-use hm_base::node::GroupKind;
 use hm_dirtyset::dirty_set::{MAX_BITS, MAX_STAGES};
 use hm_store::ledger::MAX_LOG_LEN;
 use hm_switch::switch::MAX_LIFE;
@@ -40,20 +40,17 @@ pub(crate) fn read_fields(keyword: Keyword, fields: &[u8]) -> Option<Line>
     }
 }
 
-/// The group of a chain.
+/// The group: its protocol and its size.
 fn read_group(fields: &[u8]) -> Option<Line>
     ensures some { IfSome result (λ l. Reads Keyword.Group fields.now l) }
-    ensures only { (size : ℕ) → 1 ≤ size → size ≤ 7 → fields.now ≡ spaced (codes "chain" ∷ decimal size ∷ []) → result ≡ Some (Line.Group Chain size) }
+    ensures only { (kind : GroupKind) → (size : ℕ) → IsLawfulGroup kind size → fields.now ≡ spaced (kind_text kind ∷ decimal size ∷ []) → result ≡ Some (Line.Group kind size) }
 {
-    let fields = next_chain(fields)?;
+    let (kind, fields) = next_kind(fields)?;
     let (size, fields) = next_small(fields, 7)?;
     if size == 0 || !fields.is_empty() {
         return None;
     }
-    Some(Line::Group {
-        kind: GroupKind::Chain,
-        size,
-    })
+    Some(Line::Group { kind, size })
 }
 
 /// The dirty table.

@@ -18,12 +18,17 @@ use std::alloc::Global;
 use std::process::Abort;
 use std::test::Fail;
 
-const ONE: Stamp = Stamp { switch: 1, seq: 1 };
+pub(crate) const ONE: Stamp = Stamp { switch: 1, seq: 1 };
 
 const TWO: Stamp = Stamp { switch: 1, seq: 2 };
 
 /// Asserts that a step sent packets of which the last has this text.
-fn assert_last(rt: &impl Abort, alloc: Global, acted: &Acted, text: &[u8]) -> Result<(), Fail> {
+pub(crate) fn assert_last(
+    rt: &impl Abort,
+    alloc: Global,
+    acted: &Acted,
+    text: &[u8],
+) -> Result<(), Fail> {
     let mut out = Text::new(alloc);
     write_last(&acted.outs, &mut out)?;
     assert_eq!(rt; out.as_slice(), text);
@@ -40,7 +45,7 @@ fn member_of_three(alloc: Global, me: u8) -> Result<Chain, Fail>
     Ok(Chain::open(alloc, me, &members, 16)?)
 }
 
-fn from_switch(me: u8, body: Body<'static>) -> Packet<'static>
+pub(crate) fn from_switch(me: u8, body: Body<'static>) -> Packet<'static>
     requires { me ≤ 6 }
 {
     Packet {
@@ -51,7 +56,7 @@ fn from_switch(me: u8, body: Body<'static>) -> Packet<'static>
 }
 
 /// A client's write.
-fn write(stamp: Stamp, request: u64, value: Value) -> Entry {
+pub(crate) fn write(stamp: Stamp, request: u64, value: Value) -> Entry {
     Entry {
         stamp,
         client: 7,
@@ -62,7 +67,7 @@ fn write(stamp: Stamp, request: u64, value: Value) -> Entry {
 }
 
 /// A page of one entry from replica 0 to replica 1.
-fn page_of_one(first: u32, log: &[Entry; 1]) -> Packet<'_> {
+pub(crate) fn page_of_one(first: u32, log: &[Entry; 1]) -> Packet<'_> {
     Packet {
         src: Node::Replica(0),
         dst: Node::Replica(1),

@@ -20,6 +20,8 @@ mod order;
 #[cfg(test)]
 mod packet;
 #[cfg(test)]
+mod primary;
+#[cfg(test)]
 mod reconfig;
 #[cfg(test)]
 mod replay;

@@ -10,8 +10,13 @@ fn reads_setup_lines(rt: HostRuntime) {
         kind: GroupKind::Chain,
         size: 7,
     };
+    let backed = Line::Group {
+        kind: GroupKind::Primary,
+        size: 3,
+    };
     let table = Line::Table { stages: 4, bits: 0 };
     assert_eq!(rt; read_line(b"group chain 7"), Ok(group));
+    assert_eq!(rt; read_line(b"group primary 3"), Ok(backed));
     assert_eq!(rt; read_line(b"table 4 0"), Ok(table));
     assert_eq!(rt; read_line(b"life 4194304"), Ok(Line::Life(4_194_304)));
     assert_eq!(rt; read_line(b"log 1"), Ok(Line::Log(1)));
@@ -58,6 +63,8 @@ fn reads_lines_of_packets_and_replicas(rt: HostRuntime) {
 fn refuses_other_bytes(rt: HostRuntime) {
     let none = Err(LineReason::Word);
     assert_eq!(rt; read_line(b"group chain 8"), none);
+    assert_eq!(rt; read_line(b"group primary 0"), none);
+    assert_eq!(rt; read_line(b"group vr 3"), none);
     assert_eq!(rt; read_line(b"table 0 3"), none);
     assert_eq!(rt; read_line(b"read 8 5 0"), none);
     assert_eq!(rt; read_line(b"deliver 4294967296"), none);

@@ -11,7 +11,7 @@ use Rattle.hm_rules.specs.ReplicaSteps.{Stepped}
 -- the protocols that are built so far
 abbrev pub is_built : GroupKind → Bool
 is_built kind.Chain = true
-is_built kind.Primary = false
+is_built kind.Primary = true
 is_built kind.Vr = false
 
 -- the protocol, how many entries a log may have, and the replicas by number

@@ -12,6 +12,7 @@ use hm_base::node::GroupKind;
 use hm_chain::chain::Chain;
 use hm_codec::acted::Acted;
 use hm_packet::packet::Packet;
+use hm_primary_backup::primary::Primary;
 use hm_step_laws::steps::every_step_keeps;
 use hm_store::ledger::Ledger;
 use std::alloc::Global;
@@ -21,6 +22,7 @@ use std::marker::Model;
 #[derive(Drop)]
 pub(crate) enum Members {
     Chain(Vec<Chain>),
+    Primary(Vec<Primary>),
 }
 
 /// All replicas of a group, by number: each of the calls acts by their protocol. Contracts see which it is, how many entries a log
@@ -67,6 +69,7 @@ impl Group {
     {
         match &self.members {
             Members::Chain(list) => list.len(),
+            Members::Primary(list) => list.len(),
         }
     }
 
@@ -75,7 +78,7 @@ impl Group {
         ensures { result ≡ is_fixed self.now.kind }
     {
         match &self.members {
-            Members::Chain(_) => false,
+            Members::Chain(_) | Members::Primary(_) => false,
         }
     }
 
@@ -132,7 +135,7 @@ impl Group {
 pub(crate) fn is_built(kind: GroupKind) -> bool
     ensures { result ≡ is_built kind }
 {
-    matches!(kind, GroupKind::Chain)
+    matches!(kind, GroupKind::Chain | GroupKind::Primary)
 }
 
 /// The members before their first packets.
@@ -149,7 +152,8 @@ fn open_members(
 {
     match kind {
         GroupKind::Chain => Ok(Members::Chain(open_chains(alloc, cap, members)?)),
-        GroupKind::Primary | GroupKind::Vr => unreachable!(),
+        GroupKind::Primary => Ok(Members::Primary(open_primaries(alloc, cap, members)?)),
+        GroupKind::Vr => unreachable!(),
     }
 }
 
@@ -169,6 +173,22 @@ fn open_chains(
     Ok(replicas)
 }
 
+/// The members of a primary-backup group before their first packets.
+fn open_primaries(
+    alloc: Global,
+    cap: u32,
+    members: &hm_base::members::Members,
+) -> Result<Vec<Primary>, NoMemory>
+    requires { cap ≤ max_log_len }
+    ensures { IfOk result (λ rs. rs.items ≡ map (λ me. opened me members.now cap) members.now) }
+{
+    let mut replicas = Vec::with_capacity(alloc, members.len() as usize)?;
+    for me in members.as_slice() {
+        replicas.push(Primary::open(alloc, *me, members, cap)?)?;
+    }
+    Ok(replicas)
+}
+
 /// The log of one of these.
 fn log_in(members: &Members, number: u8) -> &Ledger
     requires { number < length (replicas_in members.now) }
@@ -177,6 +197,7 @@ fn log_in(members: &Members, number: u8) -> &Ledger
 {
     match members {
         Members::Chain(list) => list[number as usize].shim().log(),
+        Members::Primary(list) => list[number as usize].shim().log(),
     }
 }
 
@@ -188,6 +209,7 @@ fn step_in(members: &mut Members, number: u8, packet: &Packet, acted: &mut Acted
 {
     match members {
         Members::Chain(list) => list[number as usize].step(packet, acted),
+        Members::Primary(list) => list[number as usize].step(packet, acted),
     }
 }
 
@@ -199,6 +221,7 @@ fn tick_in(members: &mut Members, number: u8, acted: &mut Acted)
 {
     match members {
         Members::Chain(list) => list[number as usize].tick(acted),
+        Members::Primary(list) => list[number as usize].tick(acted),
     }
 }
 
@@ -210,6 +233,6 @@ fn timeout_in(members: &mut Members, number: u8, acted: &mut Acted)
     ensures idle { is_fixed (kind_in members.old) ≡ false → members.new ≡ members.old }
 {
     match members {
-        Members::Chain(_) => {}
+        Members::Chain(_) | Members::Primary(_) => {}
     }
 }

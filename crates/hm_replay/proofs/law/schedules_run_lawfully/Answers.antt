@@ -17,11 +17,8 @@ fits n few = omega arith
 word_goes_on : All (λ (byte : ℕ). byte ≢ 10) (reason_text Word)
 word_goes_on = All-from_recursion (λ (byte : ℕ). byte ≢ 10) (reason_text Word) (λ same. omega arith, (λ same. omega arith, (λ same. omega arith, (λ same. omega arith, tt))))
 
-chain_is_vr : kind.Chain ≡ kind.Vr → ⊥
-chain_is_vr same = cc
-
-chain_forms : (setup : Setup) → setup.kind ≡ kind.Chain → CanForm setup
-chain_forms setup chain = λ other. absurd (chain_is_vr (sym chain ∙ other))
+other_forms : (setup : Setup) → setup.kind ≢ kind.Vr → CanForm setup
+other_forms setup other = λ vr. absurd (other vr)
 
 pub returns : goal.returns
 returns c = record {
@@ -32,5 +29,5 @@ returns c = record {
   shown_whole = λ lines begun. c.texts_show_their_refusals.ensures.whole (setup_in lines) (events_in lines) (fits (length (events_in lines)) (c.schedules_grow_by_lines.ensures.grow.few lines begun));
   shown_cut = λ lines begun. c.texts_show_their_refusals.ensures.cut (setup_in lines) (events_in lines) (fits (length (events_in lines)) (c.schedules_grow_by_lines.ensures.grow.few lines begun));
   shown_bad = λ lines number begun. c.texts_show_their_refusals.ensures.bad (setup_in lines) (events_in lines) number (reason_text Word) (fits (length (events_in lines)) (c.schedules_grow_by_lines.ensures.grow.few lines begun)) word_goes_on;
-  legal = λ lines begun. c.every_group_is_linearizable.ensures.legal (setup_in lines) (events_in lines) (full_in lines) (chain_forms (setup_in lines) (c.schedules_grow_by_lines.ensures.chain lines begun));
+  legal = λ lines begun. c.every_group_is_linearizable.ensures.legal (setup_in lines) (events_in lines) (full_in lines) (other_forms (setup_in lines) (c.schedules_grow_by_lines.ensures.kind lines begun));
 }

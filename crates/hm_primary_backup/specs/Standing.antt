@@ -1,0 +1,32 @@
+-- Which replica of the rules a member's fields stand for, and what holds of them.
+use Rattle.std.specs.Prelude.{◌≡◌, ◌≤◌, true, length, All, IfSome, None}
+use Rattle.hm_base.specs.Lists.{IsPrefix}
+use Rattle.hm_rules.specs.Replica.{Replica, opened}
+use Rattle.hm_rules.specs.PrimaryBackup.{is_primary}
+use Rattle.hm_shim.specs.State.{applied_entries}
+use Rattle.hm_primary_backup.specs.declared.primary.Primary.TheInside.{Inside}
+
+-- In primary-backup there are no view changes.
+abbrev pub replica_of : Inside → Replica
+replica_of p =
+    record (opened p.me p.members p.shim.cap) {
+      log = p.shim.entries;
+      staged = p.follower.staged;
+      view = p.sender.view;
+      start = p.sender.start;
+      known = p.shim.applied;
+      accepted = p.shim.accepted;
+      acked = p.sender.acked;
+    }
+
+-- a primary stages nothing, and nobody has acknowledged more than its log
+pub record Leads (p : Inside) : Type 0 where
+  pub staged : p.follower.staged ≡ None
+  pub within : All (λ n. n ≤ length p.shim.entries) p.sender.acked
+
+-- a staged list begins with what is applied
+pub record IsKept (p : Inside) : Type 0 where
+  pub me : p.me ≤ 6
+  pub caps : p.follower.cap ≡ p.shim.cap
+  pub begins : IfSome p.follower.staged (λ list. IsPrefix (applied_entries p.shim) list)
+  pub leads : is_primary (replica_of p) ≡ true → Leads p

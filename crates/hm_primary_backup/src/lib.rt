@@ -1,0 +1,5 @@
+//! Primary-backup: the first member of the epoch is the primary, and what every other member holds is committed.
+#![tactic(auto)]
+
+mod count;
+pub mod primary;
