@@ -68,7 +68,7 @@ pub fn push_last_done(outs: &mut Outs, me: u8, shim: &Shim)
 {
     let log = shim.log();
     if let Some(entry) = last_write(log.entries(0, log.applied_len())) {
-        push(outs, done_packet(me, shim.accepted(), &entry));
+        push(outs, &done_packet(me, shim.accepted(), &entry));
     }
 }
 

@@ -4,7 +4,7 @@ use Rattle.std.specs.Prelude.{All, length, slice_get, slice_set}
 use Rattle.std.proofs.lemmas.List.Elements.{All-set, All-map}
 use Rattle.hm_base.proofs.ListLaws.{each_at, set_still, there_is}
 use Rattle.hm_base.specs.declared.node.GroupKind.{GroupKind}
-use Rattle.hm_packet.specs.declared.acted.Acted.{Acted}
+use Rattle.hm_codec.specs.declared.acted.Acted.{Acted}
 use Rattle.hm_rules.specs.Replica.{Replica, opened}
 use Rattle.hm_rules.specs.ReplicaSteps.{Stepped}
 use Rattle.hm_step_laws.specs.Keeps.{Keeps}

@@ -5,7 +5,7 @@ use Rattle.std.proofs.lemmas.Bool.{false≢true, cond-true, lt-ltb}
 use Rattle.std.proofs.lemmas.List.{length-set, take-take}
 use Rattle.std.proofs.lemmas.Option.{none-some, same_Some, slice_get_within}
 use Rattle.hm_base.specs.declared.why.Why.TheVariants as why
-use Rattle.hm_packet.specs.declared.acted.Acted.{Acted}
+use Rattle.hm_codec.specs.declared.acted.Acted.{Acted}
 use Rattle.hm_packet.specs.declared.acted.Declared.{Declared}
 use Rattle.hm_packet.specs.declared.acted.Did.{Did}
 use Rattle.hm_packet.specs.declared.acted.Did.TheVariants as did

@@ -1,6 +1,6 @@
 use Rattle.std.proofs.Common.{◌≡◌, ℕ, Bool, Option, sym, ap, ◌∙◌}
 use Rattle.hm_base.specs.declared.why.Why.{Why}
-use Rattle.hm_packet.specs.declared.acted.Acted.{Acted}
+use Rattle.hm_codec.specs.declared.acted.Acted.{Acted}
 use Rattle.hm_packet.specs.Messages.{Message}
 use Rattle.hm_rules.specs.Replica.{Replica}
 use Rattle.hm_rules.specs.Senders.{number}
