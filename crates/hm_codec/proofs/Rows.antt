@@ -1,5 +1,5 @@
 -- Packets as spellings in a row: what they tell, one more packet, and one row behind another.
-use Rattle.std.proofs.Common.{◌≡◌, ℕ, zero, suc, ◌+◌, ◌-◌, ◌*◌, ◌<◌, ◌≤◌, List, [], ◌∷◌, ◌++◌, length, get_or, take, drop, map, Result, Ok, Err, None, Some, refl, sym, ap, subst, ◌∙◌, append_assoc, arith, rules, inl, inr, Bool, false, true, cond}
+use Rattle.std.proofs.Common.{◌≡◌, ℕ, zero, suc, ◌+◌, ◌-◌, ◌*◌, ◌<◌, ◌≤◌, List, [], ◌∷◌, ◌++◌, length, get_or, take, drop, map, Result, Ok, Err, None, Some, refl, sym, ap, subst, ◌∙◌, append_assoc, arith, rules, inl, inr, false, true, cond}
 use Rattle.std.specs.Prelude.{slice_range, slice_get, flat_map, All, ◌↔◌, IsOk, OnOk, is_ok}
 use Rattle.std.specs.Option.{option_map}
 use Rattle.std.proofs.lemmas.Option.{none-some, slice_get_cases}
@@ -10,53 +10,9 @@ use Rattle.std.proofs.Math.Seq.{take-append_seam, drop-append_seam}
 use Rattle.hm_packet.specs.Messages.{Message}
 use Rattle.hm_wire.specs.declared.fault.Fault.{Fault}
 use Rattle.hm_wire.specs.declared.malformed.Malformed.{Malformed}
-use Rattle.hm_wire.specs.Exact.{IsBytes, IsExact}
-use Rattle.hm_wire.specs.Grammar.{Size, Grammar, spell, spelled, limit, Leads}
-use Rattle.hm_wire.specs.Grammar.Size.{U8, U32, U64}
-use Rattle.hm_wire.specs.Grammar.Grammar.{ended, field}
-use Rattle.hm_wire.specs.Packets.{spelling, first_fault, HasSpelling, packet_fields, numbers, max_spelling_len}
-use Rattle.hm_wire.specs.Reading.{located, packet_of}
+use Rattle.hm_wire.specs.Packets.{spelling, first_fault, HasSpelling, max_spelling_len}
+use Rattle.hm_wire.specs.Reading.{packet_of}
 use Rattle.hm_codec.specs.Rows.{read_or, some_packet, told, told_from, ends_from, IsRow}
-
--- ---- spellings are bytes
-
-bytes-nil : IsBytes []
-bytes-nil i = omega arith
-
-bytes-cons : (b : ℕ) (bs : List ℕ) → b < 256 → IsBytes bs → IsBytes (b ∷ bs)
-bytes-cons b bs lt h zero = lt
-bytes-cons b bs lt h (suc i) = h i
-
-bytes-append : (xs ys : List ℕ) → IsBytes xs → IsBytes ys → IsBytes (xs ++ ys)
-bytes-append [] ys h k = k
-bytes-append (x ∷ xs) ys h k = bytes-cons x (xs ++ ys) (h 0) (bytes-append xs ys (λ i. h (suc i)) k)
-
-bytes-spelled : (s : Size) (n : ℕ) → n < limit s → IsBytes (spelled s n)
-bytes-spelled U8 n lt zero = omega arith
-bytes-spelled U8 n lt (suc i) = omega arith
-bytes-spelled U32 n lt zero = omega arith
-bytes-spelled U32 n lt (suc zero) = omega arith
-bytes-spelled U32 n lt (suc (suc zero)) = omega arith
-bytes-spelled U32 n lt (suc (suc (suc zero))) = omega arith
-bytes-spelled U32 n lt (suc (suc (suc (suc i)))) = omega arith
-bytes-spelled U64 n lt zero = omega arith
-bytes-spelled U64 n lt (suc zero) = omega arith
-bytes-spelled U64 n lt (suc (suc zero)) = omega arith
-bytes-spelled U64 n lt (suc (suc (suc zero))) = omega arith
-bytes-spelled U64 n lt (suc (suc (suc (suc zero)))) = omega arith
-bytes-spelled U64 n lt (suc (suc (suc (suc (suc zero))))) = omega arith
-bytes-spelled U64 n lt (suc (suc (suc (suc (suc (suc zero)))))) = omega arith
-bytes-spelled U64 n lt (suc (suc (suc (suc (suc (suc (suc zero))))))) = omega arith
-bytes-spelled U64 n lt (suc (suc (suc (suc (suc (suc (suc (suc i)))))))) = omega arith
-
-bytes-spell : (g : Grammar) (ns : List ℕ) → Leads g ns ended → IsBytes (spell g ns)
-bytes-spell ended ns h = bytes-nil
-bytes-spell (field s may why next) [] h = bytes-nil
-bytes-spell (field s may why next) (n ∷ ns) h = bytes-append (spelled s n) (spell (next n) ns) (bytes-spelled s n h.0) (bytes-spell (next n) ns h.2)
-
-pub bytes-spelling : (m : Message) → HasSpelling m → IsBytes (spelling m)
-unfolding spelling HasSpelling
-bytes-spelling m h = bytes-spell packet_fields (numbers m) h
 
 -- ---- lengths
 
@@ -191,17 +147,9 @@ spelled_at es bs ms i m h e =
 
 -- ---- what a row tells
 
-module _ (reading : (bytes : List ℕ) → IsBytes bytes → IsExact bytes (located (length bytes) (packet_of bytes))) (whole : (m : Message) → HasSpelling m → first_fault (spelling m) ≡ None)
-    (tells : (m n : Message) → HasSpelling m → HasSpelling n → spelling m ≡ spelling n → m ≡ n) where
-  read_back : (m : Message) (r : Result Message Fault) → HasSpelling m → IsExact (spelling m) (located (length (spelling m)) r) → read_or some_packet r ≡ m
-  read_back m (Ok p) h a = tells p m a.lawful h a.ok
-  read_back m (Err f) h a = absurd (no (a.exact.1 (whole m h)))
-    where
-      no : false ≡ true → ⊥
-      no e = search rules
-
+module _ (reads_back : (m : Message) → HasSpelling m → packet_of (spelling m) ≡ Ok m) where
   told_back : (m : Message) → HasSpelling m → told (spelling m) ≡ m
-  told_back m h = read_back m (packet_of (spelling m)) h (reading (spelling m) (bytes-spelling m h))
+  told_back m h = ap (λ (r : Result Message Fault). read_or some_packet r) (reads_back m h)
 
   told_behind : (before : List ℕ) (ms : List Message) → All HasSpelling ms → told_from (length before) (ends_from (length before) ms) (before ++ flat_map spelling ms) ≡ ms
   told_behind before [] h = refl

@@ -1,9 +1,9 @@
-use Rattle.std.proofs.Common.{◌≡◌, ◌<◌, ◌≤◌, ◌+◌, ◌-◌, ◌*◌, ◌∷◌, ◌++◌, [], ℕ, List, length, get_or, map, refl, sym, ap, subst, ◌∙◌, arith}
+use Rattle.std.proofs.Common.{◌≡◌, ◌≤◌, ◌+◌, ◌++◌, ℕ, List, length, map, refl, sym, ap, subst, ◌∙◌, arith}
 use Rattle.std.specs.Prelude.{flat_map}
 use Rattle.std.proofs.lemmas.List.{length-append, length-map}
 use Rattle.std.proofs.lemmas.Grind.{get_or_default_zero}
 use Rattle.hm_packet.specs.Messages.{Message}
-use Rattle.hm_wire.specs.Packets.{spelling, max_spelling_len}
+use Rattle.hm_wire.specs.Packets.{spelling}
 use Rattle.hm_codec.specs.Rows.{told_from, ends_from, IsRow}
 use Rattle.hm_codec.specs.Spelled.{Spelled}
 use Rattle.hm_codec.proofs.Rows.{Tells, length-told, length-ends, row_of, row_within, tells_all}

@@ -1,7 +1,6 @@
-use Rattle.std.proofs.Common.{◌≡◌, List, ℕ, Some, None, Bool, cond, sym, ap, subst, ◌∙◌}
+use Rattle.std.proofs.Common.{◌≡◌, Some, None, Bool, cond, sym, ap, subst, ◌∙◌}
 use Rattle.std.specs.Prelude.{All, slice_get}
 use Rattle.std.specs.Option.{option_map, option_copied}
-use Rattle.hm_packet.specs.Messages.{Message}
 use Rattle.hm_wire.specs.Packets.{spelling, HasSpelling}
 use Rattle.hm_codec.specs.Spelled.{Spelled}
 use Rattle.hm_codec.proofs.Rows.{read_again}
