@@ -1,4 +1,4 @@
-ghost use Rattle.std.specs.Prelude.{◌≡◌, ◌≤◌, ◌∷◌, ◌++◌, length, decimal, OnOk, OnErr};
+ghost use Rattle.std.specs.Prelude.{◌≡◌, ◌≤◌, ◌<◌, ◌∷◌, ◌++◌, length, decimal, OnOk, OnErr};
 ghost use Rattle.hm_base.specs.Lists.{IsPrefix};
 ghost use Rattle.hm_base.specs.Padded.{max_value_len};
 ghost use Rattle.hm_base.specs.Spellings.{dotted, value_text, act_text, answer_text, stamp_text, op_text, node_text};
@@ -20,18 +20,90 @@ pub fn write_bytes(bytes: &[u8], out: &mut Text) -> Result<(), NoMemory>
     out.put(bytes)
 }
 
+/// The digits of a number of two digits.
+#[inline(always)]
+#[tactic(auto, using(std::proofs::lemmas::Fmt::decimal_step, std::proofs::lemmas::Fmt::decimal_digit))]
+fn two_digits(number: u32) -> [u8; 2]
+    requires { (10 ≤ number) × (number < 100) }
+    ensures { result ≡ decimal number }
+{
+    [b'0' + (number / 10) as u8, b'0' + (number % 10) as u8]
+}
+
+/// The digits of a number of three digits.
+#[inline(always)]
+#[tactic(auto, using(std::proofs::lemmas::Fmt::decimal_step, std::proofs::lemmas::Fmt::decimal_digit))]
+fn three_digits(number: u32) -> [u8; 3]
+    requires { (100 ≤ number) × (number < 1000) }
+    ensures { result ≡ decimal number }
+{
+    let [first, second] = two_digits(number / 10);
+    [first, second, b'0' + (number % 10) as u8]
+}
+
+/// The digits of a number of four digits.
+#[inline(always)]
+#[tactic(auto, using(std::proofs::lemmas::Fmt::decimal_step, std::proofs::lemmas::Fmt::decimal_digit))]
+fn four_digits(number: u32) -> [u8; 4]
+    requires { (1000 ≤ number) × (number < 10000) }
+    ensures { result ≡ decimal number }
+{
+    let [first, second, third] = three_digits(number / 10);
+    [first, second, third, b'0' + (number % 10) as u8]
+}
+
+/// The digits of a number of five digits.
+#[inline(always)]
+#[tactic(auto, using(std::proofs::lemmas::Fmt::decimal_step, std::proofs::lemmas::Fmt::decimal_digit))]
+fn five_digits(number: u32) -> [u8; 5]
+    requires { (10000 ≤ number) × (number < 100000) }
+    ensures { result ≡ decimal number }
+{
+    let [first, second, third, fourth] = four_digits(number / 10);
+    [first, second, third, fourth, b'0' + (number % 10) as u8]
+}
+
+/// Appends a number of two to five digits.
+fn write_short(number: u32, out: &mut Text) -> Result<(), NoMemory>
+    requires { (10 ≤ number) × (number < 100000) }
+    ensures ok { OnOk result (out.new.items ≡ out.old.items ++ decimal number) }
+    ensures err { OnErr result (out.new.items ≡ out.old.items) }
+{
+    if number < 100 {
+        out.put(&two_digits(number))
+    } else if number < 1000 {
+        out.put(&three_digits(number))
+    } else if number < 10_000 {
+        out.put(&four_digits(number))
+    } else {
+        out.put(&five_digits(number))
+    }
+}
+
+/// Appends a number of any length.
+#[inline(never)]
+fn write_long(number: u64, out: &mut Text) -> Result<(), NoMemory>
+    ensures ok { OnOk result (out.new.items ≡ out.old.items ++ decimal number) }
+    ensures err { OnErr result (out.new.items ≡ out.old.items) }
+{
+    let mut buffer = Buffer::new();
+    out.put(buffer.format(number).as_bytes())
+}
+
 /// Appends a number in decimal.
+#[inline(always)]
 #[tactic(auto, using(std::proofs::lemmas::Fmt::decimal_digit))]
 pub fn write_number(number: u64, out: &mut Text) -> Result<(), NoMemory>
     ensures ok { OnOk result (out.new.items ≡ out.old.items ++ decimal number) }
     ensures err { OnErr result (out.new.items ≡ out.old.items) }
 {
     if number < 10 {
-        out.push(b'0' + number as u8)?;
-        return Ok(());
+        out.push(b'0' + number as u8)
+    } else if number < 100_000 {
+        write_short(number as u32, out)
+    } else {
+        write_long(number, out)
     }
-    let mut buffer = Buffer::new();
-    write_bytes(buffer.format(number).as_bytes(), out)
 }
 
 /// Appends two numbers with a dot between them. After want of memory `out` may have the first ones of these bytes.

@@ -43,7 +43,24 @@ impl Value {
         })
     }
 
+    /// The bytes, with zeros behind them, so that a writer can copy a constant number of bytes.
+    #[inline(always)]
+    pub fn padded(&self) -> &[u8; MAX_VALUE_LEN]
+        ensures { result.now ≡ self.now ++ replicate (max_value_len - length self.now) 0 }
+    {
+        &self.bytes
+    }
+
+    /// How many bytes there are, at most [`MAX_VALUE_LEN`].
+    #[inline(always)]
+    pub fn len(&self) -> u8
+        ensures { result ≡ length self.now }
+    {
+        self.len
+    }
+
     /// The bytes.
+    #[inline(always)]
     pub fn as_slice(&self) -> &[u8]
         ensures same { result.now ≡ self.now }
         ensures fits { length result.now ≤ max_value_len }
@@ -53,14 +70,13 @@ impl Value {
 }
 
 /// The bytes, with zeros behind them.
+#[inline(always)]
 fn padded(bytes: &[u8]) -> [u8; MAX_VALUE_LEN]
     requires { length bytes.now ≤ max_value_len }
     ensures { result ≡ bytes.now ++ replicate (max_value_len - length bytes.now) 0 }
 {
     let mut padded = [0; MAX_VALUE_LEN];
-    for i in 0..bytes.len() {
-        padded[i] = bytes[i];
-    }
+    padded[..bytes.len()].copy_from_slice(bytes);
     padded
 }
 
