@@ -1,3 +1,4 @@
+mod Digits
 mod HexTexts
 pub mod ListLaws
 pub mod StampLaws

@@ -1,4 +1,4 @@
-ghost use Rattle.std.specs.Prelude.{◌≡◌, ◌≤◌, ◌<◌, ◌∷◌, ◌++◌, length, decimal, OnOk, OnErr};
+ghost use Rattle.std.specs.Prelude.{◌≡◌, ◌≤◌, ◌<◌, ◌+◌, ◌/◌, ◌%◌, [], ◌∷◌, ◌++◌, length, decimal, OnOk, OnErr};
 ghost use Rattle.hm_base.specs.Lists.{IsPrefix};
 ghost use Rattle.hm_base.specs.Padded.{max_value_len};
 ghost use Rattle.hm_base.specs.Spellings.{dotted, value_text, act_text, answer_text, stamp_text, op_text, node_text};
@@ -12,6 +12,10 @@ use crate::stamp::Stamp;
 use crate::value::{MAX_VALUE_LEN, Value};
 use itoa::Buffer;
 
+/// The two digits of each number below 100, one pair after the other.
+static PAIRS: [u8; 200] =
+    *b"00010203040506070809101112131415161718192021222324252627282930313233343536373839404142434445464748495051525354555657585960616263646566676869707172737475767778798081828384858687888990919293949596979899";
+
 /// Appends the bytes. After want of memory `out` is as before, here and in the other calls of this module.
 pub fn write_bytes(bytes: &[u8], out: &mut Text) -> Result<(), NoMemory>
     ensures ok { OnOk result (out.new.items ≡ out.old.items ++ bytes.now) }
@@ -20,47 +24,58 @@ pub fn write_bytes(bytes: &[u8], out: &mut Text) -> Result<(), NoMemory>
     out.put(bytes)
 }
 
+/// The two digits of a number below 100, `07` for 7.
+#[inline(always)]
+fn pair(number: u32) -> [u8; 2]
+    requires { number < 100 }
+    ensures { result ≡ (48 + number / 10) ∷ (48 + number % 10) ∷ [] }
+{
+    let at = 2 * number as usize;
+    [PAIRS[at], PAIRS[at + 1]]
+}
+
 /// The digits of a number of two digits.
 #[inline(always)]
-#[tactic(auto, using(std::proofs::lemmas::Fmt::decimal_step, std::proofs::lemmas::Fmt::decimal_digit))]
+#[tactic(auto, using(crate::proofs::Digits::decimal_two))]
 fn two_digits(number: u32) -> [u8; 2]
     requires { (10 ≤ number) × (number < 100) }
     ensures { result ≡ decimal number }
 {
-    [b'0' + (number / 10) as u8, b'0' + (number % 10) as u8]
+    pair(number)
 }
 
 /// The digits of a number of three digits.
 #[inline(always)]
-#[tactic(auto, using(std::proofs::lemmas::Fmt::decimal_step, std::proofs::lemmas::Fmt::decimal_digit))]
+#[tactic(auto, using(crate::proofs::Digits::decimal_pair, std::proofs::lemmas::Fmt::decimal_digit))]
 fn three_digits(number: u32) -> [u8; 3]
     requires { (100 ≤ number) × (number < 1000) }
     ensures { result ≡ decimal number }
 {
-    let [first, second] = two_digits(number / 10);
-    [first, second, b'0' + (number % 10) as u8]
+    let first = b'0' + (number / 100) as u8;
+    let [second, third] = pair(number % 100);
+    [first, second, third]
 }
 
 /// The digits of a number of four digits.
 #[inline(always)]
-#[tactic(auto, using(std::proofs::lemmas::Fmt::decimal_step, std::proofs::lemmas::Fmt::decimal_digit))]
 fn four_digits(number: u32) -> [u8; 4]
     requires { (1000 ≤ number) × (number < 10000) }
     ensures { result ≡ decimal number }
 {
-    let [first, second, third] = three_digits(number / 10);
-    [first, second, third, b'0' + (number % 10) as u8]
+    let [first, second] = two_digits(number / 100);
+    let [third, fourth] = pair(number % 100);
+    [first, second, third, fourth]
 }
 
 /// The digits of a number of five digits.
 #[inline(always)]
-#[tactic(auto, using(std::proofs::lemmas::Fmt::decimal_step, std::proofs::lemmas::Fmt::decimal_digit))]
 fn five_digits(number: u32) -> [u8; 5]
     requires { (10000 ≤ number) × (number < 100000) }
     ensures { result ≡ decimal number }
 {
-    let [first, second, third, fourth] = four_digits(number / 10);
-    [first, second, third, fourth, b'0' + (number % 10) as u8]
+    let [first, second, third] = three_digits(number / 100);
+    let [fourth, fifth] = pair(number % 100);
+    [first, second, third, fourth, fifth]
 }
 
 /// Appends a number of two to five digits.
