@@ -1,28 +1,17 @@
 -- The text of a number, two digits at a time.
-use Rattle.std.proofs.Common.{◌≡◌, ℕ, zero, suc, ◌+◌, ◌*◌, ◌/◌, ◌%◌, ◌^◌, ◌<◌, ◌≤◌, Bool, true, ◌&&◌, [], ◌∷◌, ◌++◌, get_or, refl, inl, inr, arith, append_assoc, eqb-true}
+use Rattle.std.proofs.Common.{◌≡◌, ℕ, ◌+◌, ◌*◌, ◌/◌, ◌%◌, ◌^◌, ◌<◌, ◌≤◌, Bool, ◌&&◌, [], ◌∷◌, ◌++◌, get_or, refl, arith, append_assoc, eqb-true}
 use Rattle.std.specs.Prelude.{nat_eq, decimal, slice_index_or, List}
-use Rattle.std.proofs.lemmas.Bool.{and_parts, cases_lt}
+use Rattle.std.proofs.lemmas.Bool.{and_parts}
+use Rattle.hm_base.proofs.Tests.{at_below}
 use Rattle.std.proofs.lemmas.Fmt.{decimal_digit, decimal_step}
 use Rattle.hm_base.specs.declared.text.TheConstants.{PAIRS}
 
--- the first n pairs of the table are digits of their numbers, as a test that computes
-abbrev are_pairs : ℕ → Bool
-are_pairs zero = true
-are_pairs (suc p) = (nat_eq (get_or PAIRS (2 * p) 0) (48 + p / 10) && nat_eq (get_or PAIRS (2 * p + 1) 0) (48 + p % 10)) && are_pairs p
+abbrev is_pair : ℕ → Bool
+is_pair p = nat_eq (get_or PAIRS (2 * p) 0) (48 + p / 10) && nat_eq (get_or PAIRS (2 * p + 1) 0) (48 + p % 10)
 
-below : (n p : ℕ) → are_pairs n ≡ true → p < n → (get_or PAIRS (2 * p) 0 ≡ 48 + p / 10) × (get_or PAIRS (2 * p + 1) 0 ≡ 48 + p % 10)
-below zero p t h = absurd (omega arith)
-below (suc n) p t h = elim (cases_lt p n) [
-  | inl lower ↦ below n p (and_parts _ (are_pairs n) t).1 lower
-  | inr last ↦ (
-      let e : p ≡ n = omega arith in
-      let here = and_parts _ _ (and_parts _ (are_pairs n) t).0 in
-      rw e (eqb-true _ _ here.0, eqb-true _ _ here.1))
-]
-
--- both digits of a pair
+-- both digits of a pair of the table
 pub pair_at : (p : ℕ) → p < 100 → (get_or PAIRS (2 * p) 0 ≡ 48 + p / 10) × (get_or PAIRS (2 * p + 1) 0 ≡ 48 + p % 10)
-pair_at p h = below 100 p refl h
+pair_at p h = let both = and_parts _ _ (at_below is_pair 100 p refl h) in (eqb-true _ _ both.0, eqb-true _ _ both.1)
 
 pub decimal_two : (n : ℕ) → 10 ≤ n → n < 100 → decimal n ≡ (48 + n / 10) ∷ (48 + n % 10) ∷ []
 decimal_two n low high = rw (decimal_step n low (omega arith), decimal_digit (n / 10) (omega arith))

@@ -5,11 +5,12 @@ ghost use Rattle.hm_base.specs.Spellings.{dotted, value_text, act_text, answer_t
 
 use crate::buffer::Text;
 use crate::entry::Act;
+use crate::hexadecimal::push_digits;
 use crate::memory::NoMemory;
 use crate::node::Node;
 use crate::operation::{Answer, OpId};
 use crate::stamp::Stamp;
-use crate::value::{MAX_VALUE_LEN, Value};
+use crate::value::Value;
 use itoa::Buffer;
 
 /// The two digits of each number below 100, one pair after the other.
@@ -177,10 +178,12 @@ pub fn write_value_bytes(bytes: &[u8], out: &mut Text) -> Result<(), NoMemory>
     if bytes.is_empty() {
         return write_bytes(b"empty", out);
     }
-    let mut room = [0; 2 * MAX_VALUE_LEN];
-    let digits = &mut room[..2 * bytes.len()];
-    let _ = hex::encode_to_slice(bytes, digits);
-    write_bytes(digits, out)
+    let before = out.len();
+    let written = push_digits(bytes, out);
+    if written.is_err() {
+        out.truncate(before);
+    }
+    written
 }
 
 /// Appends what an entry does: its value, or `look`.
