@@ -1,10 +1,12 @@
 //! Bytes as lower-case hexadecimal digits.
-ghost use Rattle.std.specs.Prelude.{◌≡◌, ◌<◌, [], ◌∷◌, ◌++◌, slice_index, OnOk, OnErr};
-ghost use Rattle.hex.specs.Hex.{encode_lower, lower_digits};
+ghost use Rattle.std.specs.Prelude.{◌≡◌, ◌≢◌, ℕ, ◌<◌, ◌≤◌, List, [], ◌∷◌, ◌++◌, length, slice_index, OnOk, OnErr, IfSome, IfNone};
+ghost use Rattle.hex.specs.Hex.{IsBytes, encode_lower, lower_digits};
+ghost use Rattle.hm_base.specs.Padded.{max_value_len};
 ghost use Rattle.hm_base.specs.Lists.{IsPrefix};
 
 use crate::buffer::Text;
 use crate::memory::NoMemory;
+use crate::value::{MAX_VALUE_LEN, Value};
 
 /// The two digits of each byte, one pair after the other.
 static BYTE_PAIRS: [u8; 512] =
@@ -59,4 +61,45 @@ pub fn push_digits(bytes: &[u8], out: &mut Text) -> Result<(), NoMemory>
         from += 1;
     }
     Ok(())
+}
+
+/// The number of a digit; above 15 for any byte that is none, upper-case letters too.
+#[inline(always)]
+#[tactic(auto, using(crate::proofs::HexDigits::digit_at))]
+fn number_of(digit: u8) -> u8
+    ensures is { result < 16 → slice_index lower_digits result ≡ digit }
+    ensures all { (n : ℕ) → n < 16 → digit ≡ slice_index lower_digits n → result ≡ n }
+{
+    match digit {
+        b'0'..=b'9' => digit - b'0',
+        b'a'..=b'f' => digit - b'a' + 10,
+        _ => 255,
+    }
+}
+
+/// The value whose bytes a text spells in digits. None exactly for any other text.
+pub fn read_digits(text: &[u8]) -> Option<Value>
+    ensures some { IfSome result (λ v. text.now ≡ encode_lower v) }
+    ensures lawful { IfSome result (λ v. IsBytes v × (length v ≤ max_value_len)) }
+    ensures none { IfNone result ((v : List ℕ) → IsBytes v → length v ≤ max_value_len → text.now ≢ encode_lower v) }
+{
+    if text.len() % 2 != 0 {
+        return None;
+    }
+    let count = text.len() / 2;
+    if count > MAX_VALUE_LEN {
+        return None;
+    }
+    let mut bytes = [0; MAX_VALUE_LEN];
+    let mut worst = 0;
+    for i in 0..count {
+        let high = number_of(text[2 * i]);
+        let low = number_of(text[2 * i + 1]);
+        worst |= high | low;
+        bytes[i] = high % 16 * 16 + low % 16;
+    }
+    if worst > 15 {
+        return None;
+    }
+    Some(Value::of_padded(bytes, count as u8))
 }

@@ -1,5 +1,5 @@
-ghost use Rattle.std.specs.Prelude.{◌≡◌, ◌-◌, ◌≤◌, ◌↔◌, ◌++◌, length, replicate, IsSome, IfSome, IsTrue};
-ghost use Rattle.hm_base.specs.Padded.{max_value_len};
+ghost use Rattle.std.specs.Prelude.{◌≡◌, ◌-◌, ◌≤◌, ◌↔◌, ◌++◌, length, take, replicate, IsSome, IfSome, IsTrue};
+ghost use Rattle.hm_base.specs.Padded.{max_value_len, IsPadded};
 
 use std::marker::Model;
 
@@ -41,6 +41,15 @@ impl Value {
             bytes: padded(bytes),
             len: bytes.len() as u8,
         })
+    }
+
+    /// The value of the first bytes, behind which there are zeros.
+    #[inline(always)]
+    pub(crate) fn of_padded(bytes: [u8; MAX_VALUE_LEN], len: u8) -> Value
+        requires { IsPadded len bytes }
+        ensures { result ≡ take len bytes }
+    {
+        Value { bytes, len }
     }
 
     /// The bytes, with zeros behind them, so that a writer can copy a constant number of bytes.
