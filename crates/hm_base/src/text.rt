@@ -18,6 +18,7 @@ static PAIRS: [u8; 200] =
     *b"00010203040506070809101112131415161718192021222324252627282930313233343536373839404142434445464748495051525354555657585960616263646566676869707172737475767778798081828384858687888990919293949596979899";
 
 /// Appends the bytes. After want of memory `out` is as before, here and in the other calls of this module.
+#[inline(always)]
 pub fn write_bytes(bytes: &[u8], out: &mut Text) -> Result<(), NoMemory>
     ensures ok { OnOk result (out.new.items ≡ out.old.items ++ bytes.now) }
     ensures err { OnErr result (out.new.items ≡ out.old.items) }
@@ -123,6 +124,7 @@ pub fn write_number(number: u64, out: &mut Text) -> Result<(), NoMemory>
 }
 
 /// Appends two numbers with a dot between them. After want of memory `out` may have the first ones of these bytes.
+#[inline]
 fn push_dotted(first: u64, second: u64, out: &mut Text) -> Result<(), NoMemory>
     ensures ok { OnOk result (out.new.items ≡ out.old.items ++ dotted first second) }
     ensures err { OnErr result (IsPrefix out.old.items out.new.items) }
@@ -133,6 +135,7 @@ fn push_dotted(first: u64, second: u64, out: &mut Text) -> Result<(), NoMemory>
 }
 
 /// Appends two numbers with a dot between them.
+#[inline]
 fn write_dotted(first: u64, second: u64, out: &mut Text) -> Result<(), NoMemory>
     ensures ok { OnOk result (out.new.items ≡ out.old.items ++ dotted first second) }
     ensures err { OnErr result (out.new.items ≡ out.old.items) }
@@ -146,6 +149,7 @@ fn write_dotted(first: u64, second: u64, out: &mut Text) -> Result<(), NoMemory>
 }
 
 /// Appends a stamp, as `1.9`.
+#[inline]
 pub fn write_stamp(stamp: Stamp, out: &mut Text) -> Result<(), NoMemory>
     ensures ok { OnOk result (out.new.items ≡ out.old.items ++ stamp_text stamp) }
     ensures err { OnErr result (out.new.items ≡ out.old.items) }
@@ -154,6 +158,7 @@ pub fn write_stamp(stamp: Stamp, out: &mut Text) -> Result<(), NoMemory>
 }
 
 /// Appends an operation, as `7.1`.
+#[inline]
 pub fn write_op(op: OpId, out: &mut Text) -> Result<(), NoMemory>
     ensures ok { OnOk result (out.new.items ≡ out.old.items ++ op_text op) }
     ensures err { OnErr result (out.new.items ≡ out.old.items) }
@@ -162,6 +167,7 @@ pub fn write_op(op: OpId, out: &mut Text) -> Result<(), NoMemory>
 }
 
 /// Appends a value in lower-case hexadecimal, or `empty`.
+#[inline]
 pub fn write_value(value: &Value, out: &mut Text) -> Result<(), NoMemory>
     ensures ok { OnOk result (out.new.items ≡ out.old.items ++ value_text value.now) }
     ensures err { OnErr result (out.new.items ≡ out.old.items) }
@@ -170,6 +176,7 @@ pub fn write_value(value: &Value, out: &mut Text) -> Result<(), NoMemory>
 }
 
 /// Appends the text of a value of these bytes.
+#[inline]
 pub fn write_value_bytes(bytes: &[u8], out: &mut Text) -> Result<(), NoMemory>
     requires { length bytes.now ≤ max_value_len }
     ensures ok { OnOk result (out.new.items ≡ out.old.items ++ value_text bytes.now) }
@@ -187,6 +194,7 @@ pub fn write_value_bytes(bytes: &[u8], out: &mut Text) -> Result<(), NoMemory>
 }
 
 /// Appends what an entry does: its value, or `look`.
+#[inline]
 pub fn write_act(act: &Act, out: &mut Text) -> Result<(), NoMemory>
     ensures ok { OnOk result (out.new.items ≡ out.old.items ++ act_text act.now) }
     ensures err { OnErr result (out.new.items ≡ out.old.items) }
@@ -198,6 +206,7 @@ pub fn write_act(act: &Act, out: &mut Text) -> Result<(), NoMemory>
 }
 
 /// Appends an answer: `wrote`, `none` or a value.
+#[inline]
 pub fn write_answer(answer: &Answer, out: &mut Text) -> Result<(), NoMemory>
     ensures ok { OnOk result (out.new.items ≡ out.old.items ++ answer_text answer.now) }
     ensures err { OnErr result (out.new.items ≡ out.old.items) }
@@ -210,6 +219,7 @@ pub fn write_answer(answer: &Answer, out: &mut Text) -> Result<(), NoMemory>
 }
 
 /// Appends a letter and a number.
+#[inline]
 fn write_lettered(letter: u8, number: u64, out: &mut Text) -> Result<(), NoMemory>
     ensures ok { OnOk result (out.new.items ≡ out.old.items ++ letter ∷ decimal number) }
     ensures err { OnErr result (out.new.items ≡ out.old.items) }
@@ -224,6 +234,7 @@ fn write_lettered(letter: u8, number: u64, out: &mut Text) -> Result<(), NoMemor
 }
 
 /// Appends a node: `c7`, `s1`, `r0` or `cfg`.
+#[inline]
 pub fn write_node(node: Node, out: &mut Text) -> Result<(), NoMemory>
     ensures ok { OnOk result (out.new.items ≡ out.old.items ++ node_text node) }
     ensures err { OnErr result (out.new.items ≡ out.old.items) }
