@@ -27,7 +27,7 @@ fn digit(number: u8) -> u8
     requires { number < 16 }
     ensures { result ≡ slice_index lower_digits number }
 {
-    let letters = if number > 9 { 39 } else { 0 };
+    let letters = if number > 9 { b'a' - b'9' - 1 } else { 0 };
     b'0' + number + letters
 }
 
@@ -45,7 +45,7 @@ fn sixteen_digits(bytes: &[u8; 16]) -> [u8; 32]
 }
 
 /// Appends the digits of the bytes. After want of memory `out` may have the first ones of them.
-pub fn push_digits(bytes: &[u8], out: &mut Text) -> Result<(), NoMemory>
+pub(crate) fn push_digits(bytes: &[u8], out: &mut Text) -> Result<(), NoMemory>
     ensures ok { OnOk result (out.new.items ≡ out.old.items ++ encode_lower bytes.now) }
     ensures err { OnErr result (IsPrefix out.old.items out.new.items) }
 {
@@ -78,7 +78,7 @@ fn number_of(digit: u8) -> u8
 }
 
 /// The value whose bytes a text spells in digits. None exactly for any other text.
-pub fn read_digits(text: &[u8]) -> Option<Value>
+pub(crate) fn read_digits(text: &[u8]) -> Option<Value>
     ensures some { IfSome result (λ v. text.now ≡ encode_lower v) }
     ensures lawful { IfSome result (λ v. IsBytes v × (length v ≤ max_value_len)) }
     ensures none { IfNone result ((v : List ℕ) → IsBytes v → length v ≤ max_value_len → text.now ≢ encode_lower v) }
