@@ -1,11 +1,15 @@
 -- The lines of packets, one after another.
-use Rattle.std.proofs.Common.{◌≡◌, ℕ, ◌+◌, ◌-◌, ◌<◌, ◌≤◌, Bool, false, List, [], ◌∷◌, ◌++◌, length, get_or, take, drop, Option, Some, None, inl, inr, sym, ap, ◌∙◌, append_assoc, arith, cond, eqb}
-use Rattle.std.specs.Prelude.{slice_get, codes, decimal}
-use Rattle.std.proofs.lemmas.List.{take_more, get_or-drop, length-take, length-drop}
-use Rattle.std.proofs.lemmas.Option.{get_or_from_slice_get, slice_get_cases}
+use Rattle.std.proofs.Common.{◌≡◌, ℕ, ◌+◌, ◌-◌, ◌<◌, ◌≤◌, Bool, false, List, [], ◌∷◌, ◌++◌, length, get_or, take, drop, Option, Some, None, Result, Ok, Err, inl, inr, refl, sym, ap, subst, ◌∙◌, append_assoc, arith, cond, eqb}
+use Rattle.std.specs.Prelude.{All, slice_get, unwrap_or, codes, decimal}
+use Rattle.std.specs.Option.{option_map}
+use Rattle.std.proofs.lemmas.List.{append-nil, take_more, get_or-drop, length-take, length-drop}
+use Rattle.std.proofs.lemmas.Option.{none-some, slice_get_within, get_or_from_slice_get, slice_get_cases}
 use Rattle.std.proofs.lemmas.Bool.Decides.{eqb_tells}
 use Rattle.hm_packet.specs.Messages.{Message}
 use Rattle.hm_packet.specs.Texts.{packet_text}
+use Rattle.hm_wire.specs.declared.malformed.Malformed.{Malformed}
+use Rattle.hm_wire.specs.Packets.{spelling, first_fault, HasSpelling}
+use Rattle.hm_wire_text.specs.Worded.{Tells}
 use Rattle.hm_rules.specs.World.{World, sent_at}
 use Rattle.hm_rules.specs.RunText.{line_of, packet_lines}
 
@@ -16,6 +20,28 @@ packet_lines_push i (x ∷ ms) m =
     ap (λ (l : List ℕ). line ++ l) (packet_lines_push (i + 1) ms m)
     ∙ sym (append_assoc line (packet_lines (i + 1) ms) (packet_lines (i + 1 + length ms) (m ∷ [])))
     ∙ ap (λ (k : ℕ). (line ++ packet_lines (i + 1) ms) ++ packet_lines k (m ∷ [])) (omega arith)
+
+-- a packet's line, as it is written
+pub line_written : (text number words : List ℕ) → ((((text ++ codes "packet ") ++ number) ++ 32 ∷ []) ++ words) ++ 10 ∷ [] ≡ text ++ (line_of (codes "packet" ∷ number ∷ words ∷ []) ++ [])
+line_written text number words = simp (append_assoc, append-nil)
+
+-- the text of the bytes of a packet is the packet's
+pub told_text : ((m : Message) → HasSpelling m → first_fault (spelling m) ≡ None) → ((m n : Message) → HasSpelling m → HasSpelling n → spelling m ≡ spelling n → m ≡ n)
+    → (m : Message) (bytes text out : List ℕ) (r : Result Unit Malformed) → HasSpelling m → spelling m ≡ bytes → Tells r bytes text out → out ≡ text ++ packet_text m
+told_text no_fault one m bytes text out (Ok u) lawful is told = told.3 ∙ ap (λ (x : Message). text ++ packet_text x) (one told.0 m told.1 lawful (told.2 ∙ sym is))
+told_text no_fault one m bytes text out (Err fault) lawful is told = absurd (none-some fault (sym (no_fault m lawful) ∙ ap first_fault is ∙ told.0))
+
+-- the packet at a place, by its spelling
+pub sent_spelled : (net : List Message) (o : Option Message) (i : ℕ) (bytes : List ℕ) → o ≡ slice_get net i → All HasSpelling net → Some bytes ≡ option_map spelling o → (m : Message) × (o ≡ Some m) × HasSpelling m × (spelling m ≡ bytes)
+sent_spelled net None i bytes here all is = absurd (none-some bytes (sym is))
+sent_spelled net (Some m) i bytes here all is =
+    let lt : i < length net = slice_get_within net i m (sym here) in
+    let item : get_or net i m ≡ m = get_or_from_slice_get net i m m (sym here) in
+    (m, refl, subst HasSpelling item (all i m lt), ap (λ (o : Option (List ℕ)). unwrap_or o []) (sym is))
+
+pub not_copied : (o : Option Message) → None ≡ option_map spelling o → o ≡ None
+not_copied None is = refl
+not_copied (Some m) is = absurd (none-some (spelling m) is)
 
 not_zero : (i : ℕ) → eqb (i + 1) 0 ≡ false
 not_zero i = elim (eqb_tells (i + 1) 0) [ inl h ↦ absurd (omega (arith, h.1)) | inr h ↦ h.0 ]

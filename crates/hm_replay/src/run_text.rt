@@ -142,15 +142,16 @@ pub fn write_marks(marks: &[Mark], out: &mut Text) -> Result<(), NoMemory>
 
 /// Appends the line of the packet that the bytes spell: its number, counted from 1, and its text.
 pub fn write_sent(number: u32, bytes: &[u8], out: &mut Text) -> Result<(), NoMemory>
-    ensures { (packet : Message) → HasSpelling packet → spelling packet ≡ bytes.now → OnOk result (out.new.items ≡ out.old.items ++ packet_lines number (packet ∷ [])) }
+    ensures { OnOk result ((packet : Message) → HasSpelling packet → spelling packet ≡ bytes.now → out.new.items ≡ out.old.items ++ packet_lines number (packet ∷ [])) }
 {
     spelling_has_no_fault();
     spelling_tells_the_packet();
     write_bytes(b"packet ", out)?;
     write_number(u64::from(number), out)?;
-    write_bytes(b" ", out)?;
+    out.push(b' ')?;
     let _told = write_spelled(bytes, out)?;
-    write_bytes(b"\n", out)
+    out.push(b'\n')?;
+    Ok(())
 }
 
 /// Appends the end of a whole run's text: the operations in their order.

@@ -41,7 +41,7 @@ returns-in-Err-put_all g c =
     let run = rw c.in-Event.is at c.loop-next.invariant.run in
     let failed = c.in-Err-put_all.ensures.err in (
       record { read = c.loop-next.invariant.read; put = c.in-Err-put_all.ensures.counted ∙ ap one_more c.loop-next.invariant.put },
-      ends_event c.calls_add_up.ensures c.schedules_run_lawfully.ensures c.schedules_grow_by_lines.ensures.grow _ _ _ failed.0 _ _ _ _ _ _ _ run (c.deref.ensures.value ∙ c.in-Ok-write_event.ensures.text) failed.1 failed.2,
+      ends_event c.calls_add_up.ensures c.schedules_run_lawfully.ensures c.schedules_grow_by_lines.ensures.grow _ _ _ failed.0 _ _ _ _ _ _ _ run (c.as_slice.ensures ∙ c.in-Ok-write_event.ensures.text) failed.1 failed.2,
     )
 
 pub returns-in-End : goal.returns-in-End
@@ -66,7 +66,7 @@ returns-in-Err-next_event g c =
         put = c.in-Ok-put_all.ensures.counted ∙ c.loop-next.invariant.put;
       },
       ends_cut_ahead c.calls_add_up.ensures c.schedules_run_lawfully.ensures c.schedules_grow_by_lines.ensures.grow _ _ _ _ _ _ _ _ _ _ _ _ _ run c.in-Ok-write_event.ensures.world c.in-Ok-write_event.ensures.events
-          (c.deref.ensures.value ∙ c.in-Ok-write_event.ensures.text) c.in-Ok-put_all.ensures.ok failed.0 failed.1,
+          (c.as_slice.ensures ∙ c.in-Ok-write_event.ensures.text) c.in-Ok-put_all.ensures.ok failed.0 failed.1,
     )
 
 pub loop-next-smaller : goal.loop-next-smaller
@@ -85,7 +85,7 @@ loop-next-preserved g c =
     c.events-in-loop-next.ensures c.in-Ok-next_event.ensures.next in
     let progress =
     progress_more c.calls_add_up.ensures c.schedules_run_lawfully.ensures c.schedules_grow_by_lines.ensures.grow _ _ _ _ _ _ _ _ _ _ _ _ c.in-Event.event _ run.progress run.comes c.in-Ok-write_event.ensures.world c.in-Ok-write_event.ensures.events
-    (c.deref.ensures.value ∙ c.in-Ok-write_event.ensures.text) c.in-Ok-put_all.ensures.ok in
+    (c.as_slice.ensures ∙ c.in-Ok-write_event.ensures.text) c.in-Ok-put_all.ensures.ok in
     record {
       run = ahead_more c.calls_add_up.ensures c.schedules_run_lawfully.ensures c.schedules_grow_by_lines.ensures.grow _ _ run.lines c.in-Event.event _ _ _ _ _ _ _ _ progress came_here;
       read = c.in-Ok-next_event.ensures.counted ∙ c.loop-next.invariant.read;
