@@ -13,11 +13,7 @@ use hm_schedule::event::Event;
 use hm_world::world::World;
 
 /// Lets an event happen, and makes its text in place of what the buffer held.
-pub(crate) fn write_event(
-    world: &mut World,
-    event: &Event,
-    text: &mut Text,
-) -> Result<(), NoMemory>
+pub(crate) fn write_event(world: &mut World, event: &Event, text: &mut Text) -> Result<(), NoMemory>
     requires { world.old.events < max_events }
     ensures text { OnOk result (text.new.items ≡ event_text (world.old.events + 1) world.old.world (slot_happens (with_slots world.old) (event_of event.now))) }
     ensures world { OnOk result (with_slots world.new ≡ slot_step (with_slots world.old) (event_of event.now)) }

@@ -122,12 +122,7 @@ fn write_frames(
 }
 
 /// Appends the end of the text, and puts it.
-fn close<K: Sink>(
-    verdict: Verdict,
-    count: u32,
-    text: &mut Text,
-    sink: &mut K,
-) -> Result<(), NotPut>
+fn close<K: Sink>(verdict: Verdict, count: u32, text: &mut Text, sink: &mut K) -> Result<(), NotPut>
     requires { count ≤ max_frames }
     ensures { Puts result (text.old.items ++ closing_text verdict count) (K.held sink.old) (K.held sink.new) (K.faults sink.old) (K.faults sink.new) }
 {

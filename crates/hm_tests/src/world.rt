@@ -1,6 +1,6 @@
+use crate::frame::READ_FRAME;
 use hm_base::node::GroupKind;
 use hm_packet::outcome::Outcome;
-use hm_packet::text::write_packet;
 use hm_schedule::event::{Event, Setup};
 use hm_world::fault::WorldFault;
 use hm_world::world::World;
@@ -26,9 +26,8 @@ const READ: Event = Event::Read {
 fn a_read_is_sent(rt: HostRuntime) -> Result<(), Fail> {
     let mut world = World::open(rt.alloc(), &ONE)?;
     assert_eq!(rt; world.event(&READ)?, Outcome::Ok { first: 1, count: 1 });
-    let mut text = Vec::new(rt.alloc());
-    write_packet(world.sent(world.sent_count()).ok_or("a packet")?, &mut text)?;
-    assert_eq!(rt; text.as_slice(), b"c8 s1 read 1 5".as_slice());
+    let sent = world.sent(world.sent_count()).ok_or("a packet")?;
+    assert_eq!(rt; sent, &READ_FRAME[2..]);
     assert_eq!(rt; world.events(), 1);
     assert_eq!(rt; world.history().marks().len(), 1);
     Ok(())

@@ -94,10 +94,7 @@ fn put_words<'a>(bytes: &'a [u8], out: &mut Text) -> Result<Result<&'a [u8], Fau
 }
 
 /// Reads a stamped read, and appends its words.
-fn fast_read_words<'a>(
-    bytes: &'a [u8],
-    out: &mut Text,
-) -> Result<Result<&'a [u8], Fault>, NoMemory>
+fn fast_read_words<'a>(bytes: &'a [u8], out: &mut Text) -> Result<Result<&'a [u8], Fault>, NoMemory>
     ensures words { IfOk result (λ r. Gives (λ rest. (out.new.items, rest.now)) r (worded out.old.items (as_body (λ b. body.FastRead b) (reading.fast_read_at bytes.now)))) }
     ensures front { IsPrefix out.old.items out.new.items }
 {
@@ -150,10 +147,7 @@ fn feed_words<'a>(bytes: &'a [u8], out: &mut Text) -> Result<Result<&'a [u8], Fa
 }
 
 /// Reads how long a list is held, and appends its words.
-fn feed_ack_words<'a>(
-    bytes: &'a [u8],
-    out: &mut Text,
-) -> Result<Result<&'a [u8], Fault>, NoMemory>
+fn feed_ack_words<'a>(bytes: &'a [u8], out: &mut Text) -> Result<Result<&'a [u8], Fault>, NoMemory>
     ensures words { IfOk result (λ r. Gives (λ rest. (out.new.items, rest.now)) r (worded out.old.items (as_body (λ b. body.FeedAck b) (reading.feed_ack_at bytes.now)))) }
     ensures front { IsPrefix out.old.items out.new.items }
 {
@@ -252,10 +246,7 @@ fn refuse_words<'a>(bytes: &'a [u8], out: &mut Text) -> Result<Result<&'a [u8], 
 }
 
 /// Reads a refused switch, and appends its words.
-fn refused_words<'a>(
-    bytes: &'a [u8],
-    out: &mut Text,
-) -> Result<Result<&'a [u8], Fault>, NoMemory>
+fn refused_words<'a>(bytes: &'a [u8], out: &mut Text) -> Result<Result<&'a [u8], Fault>, NoMemory>
     ensures words { IfOk result (λ r. Gives (λ rest. (out.new.items, rest.now)) r (worded out.old.items (as_body (λ b. body.Refused b) (reading.refused_at bytes.now)))) }
     ensures front { IsPrefix out.old.items out.new.items }
 {
