@@ -1,7 +1,8 @@
 -- Packets as spellings in a row: what they tell, one more packet, and one row behind another.
-use Rattle.std.proofs.Common.{◌≡◌, ℕ, zero, suc, ◌+◌, ◌-◌, ◌*◌, ◌<◌, ◌≤◌, List, [], ◌∷◌, ◌++◌, length, get_or, take, drop, map, Result, Ok, Err, None, Some, refl, sym, ap, subst, ◌∙◌, append_assoc, arith, rules, false, true}
-use Rattle.std.specs.Prelude.{slice_range, slice_get, flat_map, All, ◌↔◌}
-use Rattle.std.proofs.lemmas.Option.{none-some}
+use Rattle.std.proofs.Common.{◌≡◌, ℕ, zero, suc, ◌+◌, ◌-◌, ◌*◌, ◌<◌, ◌≤◌, List, [], ◌∷◌, ◌++◌, length, get_or, take, drop, map, Result, Ok, Err, None, Some, refl, sym, ap, subst, ◌∙◌, append_assoc, arith, rules, inl, inr, false, true, cond}
+use Rattle.std.specs.Prelude.{slice_range, slice_get, flat_map, All, ◌↔◌, IsOk, OnOk, is_ok}
+use Rattle.std.specs.Option.{option_map}
+use Rattle.std.proofs.lemmas.Option.{none-some, slice_get_cases}
 use Rattle.std.proofs.lemmas.List.{append-nil, length-append}
 use Rattle.std.proofs.lemmas.List.Elements.{All-append, All-nil}
 use Rattle.std.proofs.lemmas.Grind.{flat_map-append}
@@ -9,53 +10,9 @@ use Rattle.std.proofs.Math.Seq.{take-append_seam, drop-append_seam}
 use Rattle.hm_packet.specs.Messages.{Message}
 use Rattle.hm_wire.specs.declared.fault.Fault.{Fault}
 use Rattle.hm_wire.specs.declared.malformed.Malformed.{Malformed}
-use Rattle.hm_wire.specs.Exact.{IsBytes, IsExact}
-use Rattle.hm_wire.specs.Grammar.{Size, Grammar, spell, spelled, limit, Leads}
-use Rattle.hm_wire.specs.Grammar.Size.{U8, U32, U64}
-use Rattle.hm_wire.specs.Grammar.Grammar.{ended, field}
-use Rattle.hm_wire.specs.Packets.{spelling, first_fault, HasSpelling, packet_fields, numbers, max_spelling_len}
-use Rattle.hm_wire.specs.Reading.{located, packet_of}
+use Rattle.hm_wire.specs.Packets.{spelling, first_fault, HasSpelling, max_spelling_len}
+use Rattle.hm_wire.specs.Reading.{packet_of}
 use Rattle.hm_codec.specs.Rows.{read_or, some_packet, told, told_from, ends_from, IsRow}
-
--- ---- spellings are bytes
-
-bytes-nil : IsBytes []
-bytes-nil i = omega arith
-
-bytes-cons : (b : ℕ) (bs : List ℕ) → b < 256 → IsBytes bs → IsBytes (b ∷ bs)
-bytes-cons b bs lt h zero = lt
-bytes-cons b bs lt h (suc i) = h i
-
-bytes-append : (xs ys : List ℕ) → IsBytes xs → IsBytes ys → IsBytes (xs ++ ys)
-bytes-append [] ys h k = k
-bytes-append (x ∷ xs) ys h k = bytes-cons x (xs ++ ys) (h 0) (bytes-append xs ys (λ i. h (suc i)) k)
-
-bytes-spelled : (s : Size) (n : ℕ) → n < limit s → IsBytes (spelled s n)
-bytes-spelled U8 n lt zero = omega arith
-bytes-spelled U8 n lt (suc i) = omega arith
-bytes-spelled U32 n lt zero = omega arith
-bytes-spelled U32 n lt (suc zero) = omega arith
-bytes-spelled U32 n lt (suc (suc zero)) = omega arith
-bytes-spelled U32 n lt (suc (suc (suc zero))) = omega arith
-bytes-spelled U32 n lt (suc (suc (suc (suc i)))) = omega arith
-bytes-spelled U64 n lt zero = omega arith
-bytes-spelled U64 n lt (suc zero) = omega arith
-bytes-spelled U64 n lt (suc (suc zero)) = omega arith
-bytes-spelled U64 n lt (suc (suc (suc zero))) = omega arith
-bytes-spelled U64 n lt (suc (suc (suc (suc zero)))) = omega arith
-bytes-spelled U64 n lt (suc (suc (suc (suc (suc zero))))) = omega arith
-bytes-spelled U64 n lt (suc (suc (suc (suc (suc (suc zero)))))) = omega arith
-bytes-spelled U64 n lt (suc (suc (suc (suc (suc (suc (suc zero))))))) = omega arith
-bytes-spelled U64 n lt (suc (suc (suc (suc (suc (suc (suc (suc i)))))))) = omega arith
-
-bytes-spell : (g : Grammar) (ns : List ℕ) → Leads g ns ended → IsBytes (spell g ns)
-bytes-spell ended ns h = bytes-nil
-bytes-spell (field s may why next) [] h = bytes-nil
-bytes-spell (field s may why next) (n ∷ ns) h = bytes-append (spelled s n) (spell (next n) ns) (bytes-spelled s n h.0) (bytes-spell (next n) ns h.2)
-
-pub bytes-spelling : (m : Message) → HasSpelling m → IsBytes (spelling m)
-unfolding spelling HasSpelling
-bytes-spelling m h = bytes-spell packet_fields (numbers m) h
 
 -- ---- lengths
 
@@ -91,6 +48,19 @@ ends-moved (m ∷ ms) by at =
     let step : (by + at) + length (spelling m) ≡ by + (at + length (spelling m)) = omega arith in
     ap (λ (k : ℕ). k ∷ ends_from k ms) step ∙ ap (λ (l : List ℕ). (by + (at + length (spelling m))) ∷ l) (ends-moved ms by (at + length (spelling m)))
 
+-- the ends rise, up to the end of the row
+ends_rise : (ms : List Message) (at i : ℕ) → i < length ms → get_or (at ∷ ends_from at ms) i 0 ≤ get_or (ends_from at ms) i 0
+ends_rise [] at i lt = absurd (omega arith)
+ends_rise (m ∷ ms) at zero lt = omega arith
+ends_rise (m ∷ ms) at (suc i) lt = ends_rise ms (at + length (spelling m)) i (omega arith)
+
+ends_within : (ms : List Message) (at i : ℕ) → i < length ms → get_or (ends_from at ms) i 0 ≤ at + length (flat_map spelling ms)
+ends_within [] at i lt = absurd (omega arith)
+ends_within (m ∷ ms) at zero lt = omega (arith, length-append (spelling m) (flat_map spelling ms))
+ends_within (m ∷ ms) at (suc i) lt =
+    let h : get_or (ends_from (at + length (spelling m)) ms) i 0 ≤ (at + length (spelling m)) + length (flat_map spelling ms) = ends_within ms (at + length (spelling m)) i (omega arith) in
+    omega (arith, h, length-append (spelling m) (flat_map spelling ms))
+
 -- ---- rows
 
 pub no_row : IsRow [] [] []
@@ -109,6 +79,10 @@ rows_then es bs fs cs ms ns h k = record {
 
     both : es ++ map (λ (e : ℕ). length bs + e) fs ≡ ends_from 0 (ms ++ ns)
     both = ap (λ (l : List ℕ). l ++ map (λ (e : ℕ). length bs + e) fs) h.places ∙ ap (λ (l : List ℕ). ends_from 0 ms ++ l) moved ∙ sym (ends-append ms ns 0)
+
+-- packets in a row
+pub row_of : (ms : List Message) → All HasSpelling ms → IsRow (ends_from 0 ms) (flat_map spelling ms) ms
+row_of ms h = record { spelled = refl; places = refl; lawful = h }
 
 one_row : (m : Message) → HasSpelling m → IsRow (length (spelling m) ∷ []) (spelling m) (m ∷ [])
 one_row m h = record { spelled = sym (append-nil (spelling m)); places = ap (λ (k : ℕ). k ∷ []) (omega arith); lawful = one }
@@ -130,6 +104,19 @@ row_short short es bs ms h =
     let long : length bs ≡ length (flat_map spelling ms) = ap length h.spelled in
     let many : length es ≡ length ms = ap length h.places ∙ length-ends ms 0 in
     omega (arith, few, long, many)
+
+-- its ends rise, and lie within it
+pub row_rises : (es bs : List ℕ) (ms : List Message) (i : ℕ) → IsRow es bs ms → i < length es → get_or (0 ∷ es) i 0 ≤ get_or es i 0
+row_rises es bs ms i h lt =
+    let many : length es ≡ length ms = ap length h.places ∙ length-ends ms 0 in
+    rw h.places (ends_rise ms 0 i (omega arith))
+
+pub row_within : (es bs : List ℕ) (ms : List Message) (i : ℕ) → IsRow es bs ms → i < length es → get_or es i 0 ≤ length bs
+row_within es bs ms i h lt =
+    let many : length es ≡ length ms = ap length h.places ∙ length-ends ms 0 in
+    let long : length bs ≡ length (flat_map spelling ms) = ap length h.spelled in
+    let below : get_or (ends_from 0 ms) i 0 ≤ 0 + length (flat_map spelling ms) = ends_within ms 0 i (omega arith) in
+    rw h.places (omega (arith, below, long))
 
 -- ---- the bytes of one packet
 
@@ -160,17 +147,9 @@ spelled_at es bs ms i m h e =
 
 -- ---- what a row tells
 
-module _ (reading : (bytes : List ℕ) → IsBytes bytes → IsExact bytes (located (length bytes) (packet_of bytes))) (whole : (m : Message) → HasSpelling m → first_fault (spelling m) ≡ None)
-    (tells : (m n : Message) → HasSpelling m → HasSpelling n → spelling m ≡ spelling n → m ≡ n) where
-  read_back : (m : Message) (r : Result Message Fault) → HasSpelling m → IsExact (spelling m) (located (length (spelling m)) r) → read_or some_packet r ≡ m
-  read_back m (Ok p) h a = tells p m a.lawful h a.ok
-  read_back m (Err f) h a = absurd (no (a.exact.1 (whole m h)))
-    where
-      no : false ≡ true → ⊥
-      no e = search rules
-
+module _ (reads_back : (m : Message) → HasSpelling m → packet_of (spelling m) ≡ Ok m) where
   told_back : (m : Message) → HasSpelling m → told (spelling m) ≡ m
-  told_back m h = read_back m (packet_of (spelling m)) h (reading (spelling m) (bytes-spelling m h))
+  told_back m h = ap (λ (r : Result Message Fault). read_or some_packet r) (reads_back m h)
 
   told_behind : (before : List ℕ) (ms : List Message) → All HasSpelling ms → told_from (length before) (ends_from (length before) ms) (before ++ flat_map spelling ms) ≡ ms
   told_behind before [] h = refl
@@ -211,3 +190,39 @@ module _ (law : (ends bytes : List ℕ) (packets : List Message) → IsRow ends 
       → Tells fs cs (told_from 0 es bs ++ ns)
   tells_all es bs fs cs more ns h k bytes ends =
       tells_those fs cs (told_from 0 es bs ++ ns) (rw (ends, bytes) (rows_then es bs more (flat_map spelling ns) (told_from 0 es bs) ns h k))
+
+-- ---- one packet of a row, read again
+
+pub read_again : (whole : (m : Message) → HasSpelling m → first_fault (spelling m) ≡ None) → (tells : (m n : Message) → HasSpelling m → HasSpelling n → spelling m ≡ spelling n → m ≡ n)
+    → (ms : List Message) (i : ℕ) (bytes : List ℕ) (new : Message) (r : Result Unit Malformed) → All HasSpelling ms → option_map spelling (slice_get ms i) ≡ Some bytes → (IsOk r ↔ (first_fault bytes ≡ None))
+    → OnOk r (spelling new ≡ bytes) → OnOk r (HasSpelling new) → cond (is_ok r) (Some new) None ≡ slice_get ms i
+read_again whole tells ms i bytes new r lawful here exact same has =
+    elim (slice_get_cases ms i).1 [
+      | inl there ↦ found there.0 r there.2 (subst HasSpelling there.3 (lawful i there.0 there.1)) exact same has
+      | inr past ↦ absurd (none-some bytes (sym (ap (option_map spelling) past.1) ∙ here))
+    ]
+  where
+    some_same : (a b : List ℕ) → Some a ≡ Some b → a ≡ b
+    some_same a b e = search rules
+
+    no : false ≡ true → ⊥
+    no e = search rules
+
+    spells : (m : Message) → slice_get ms i ≡ Some m → spelling m ≡ bytes
+    spells m at = some_same (spelling m) bytes (sym (ap (option_map spelling) at) ∙ here)
+
+    found : (m : Message) (r : Result Unit Malformed) → slice_get ms i ≡ Some m → HasSpelling m → (IsOk r ↔ (first_fault bytes ≡ None)) → OnOk r (spelling new ≡ bytes) → OnOk r (HasSpelling new)
+        → cond (is_ok r) (Some new) None ≡ slice_get ms i
+    found m (Ok u) at fits exact same has = ap (λ (x : Message). Some x) (tells new m has fits (same ∙ sym (spells m at))) ∙ sym at
+    found m (Err f) at fits exact same has = absurd (no (exact.1 (subst (λ (l : List ℕ). first_fault l ≡ None) (spells m at) (whole m fits))))
+
+-- what a cut gives is the spelling of the packet there
+pub cut_tells : (es bs : List ℕ) (ms : List Message) (i first end : ℕ) → IsRow es bs ms → i < length es → first ≡ get_or (0 ∷ es) i 0 → end ≡ get_or es i 0 → Some (slice_range bs first end) ≡ option_map spelling (slice_get ms i)
+cut_tells es bs ms i first end h lt begins ends =
+    elim (slice_get_cases ms i).1 [
+      | inl there ↦
+          ap (λ (l : List ℕ). Some l) (ap (λ (k : ℕ). slice_range bs k end) begins ∙ ap (λ (k : ℕ). slice_range bs (get_or (0 ∷ es) i 0) k) ends ∙ spelled_at es bs ms i there.0 h there.2) ∙ sym (ap (option_map spelling) there.2)
+      | inr past ↦
+          let many : length es ≡ length ms = ap length h.places ∙ length-ends ms 0 in
+          absurd (omega (arith, many, past.0))
+    ]

@@ -16,15 +16,14 @@ use Rattle.hm_packet.specs.declared.body.Page.{Page}
 use Rattle.hm_packet.specs.declared.body.Config.{Config}
 use Rattle.hm_packet.specs.Routing.{Routing}
 use Rattle.hm_packet.specs.declared.body.Body.TheVariants as body
-use Rattle.hm_packet.specs.declared.field.Field.{Field}
 use Rattle.hm_packet.specs.Fields.{fields, tail}
 use Rattle.hm_wire.specs.declared.malformed.Reason.{Reason}
 use Rattle.hm_wire.specs.declared.malformed.Reason.TheVariants as reason
 use Rattle.hm_wire.specs.Grammar.{Size, Grammar, spell, spelled, limit, Leads, number}
 use Rattle.hm_wire.specs.Grammar.Size.{U8, U32, U64}
 use Rattle.hm_wire.specs.Grammar.Grammar.{ended, field}
-use Rattle.hm_wire.specs.Packets.{is_within, may_be_node, node_fields, stamp_fields, run, value_fields, answer_fields, act_fields, entry_fields, many, page_fields, rising, members_fields, body_fields, packet_fields, node_numbers, stamp_numbers, value_numbers, act_numbers, entry_numbers, page_numbers, members_numbers, field_numbers, tail_numbers, body_numbers, code, spelling, HasSpelling, max_spelling_len}
-use Rattle.hm_codec.specs.Writing.{Adds, Writes, TagsValue, field_fields, all_fields, tail_fields}
+use Rattle.hm_wire.specs.Packets.{is_within, may_be_node, node_fields, stamp_fields, run, value_fields, answer_fields, act_fields, entry_fields, many, page_fields, rising, members_fields, body_fields, packet_fields, node_numbers, stamp_numbers, value_numbers, act_numbers, entry_numbers, page_numbers, members_numbers, field_numbers, tail_numbers, body_numbers, code, spelling, HasSpelling}
+use Rattle.hm_codec.specs.Writing.{Adds, Writes, TagsValue, all_fields, tail_fields}
 use Rattle.hm_wire.specs.Exact.{IsBytes}
 use Rattle.hm_wire.proofs.GrammarLaws.{spell-nil, leads_then, spell_then}
 

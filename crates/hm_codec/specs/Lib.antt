@@ -1,4 +1,3 @@
-pub mod Bounds
 pub mod Writing
 pub mod Placed
 pub mod Rows

@@ -3,7 +3,6 @@ use Rattle.std.specs.Prelude.{◌≡◌, ℕ, ◌+◌, List, [], ◌∷◌, leng
 use Rattle.hm_base.specs.declared.node.Node.TheVariants as node
 use Rattle.hm_packet.specs.declared.body.Body.TheVariants as body
 use Rattle.hm_packet.specs.Messages.{Message}
-use Rattle.hm_packet.specs.declared.acted.TheConstants.{MAX_OUTS}
 use Rattle.hm_wire.specs.declared.fault.Fault.{Fault}
 use Rattle.hm_wire.specs.Packets.{spelling, HasSpelling}
 use Rattle.hm_wire.specs.Reading.{packet_of}

@@ -1,5 +1,4 @@
-ghost use Rattle.std.specs.Prelude.{◌≡◌, ◌≤◌, ◌↔◌, [], ◌++◌, length, IsSome, IfSome};
-ghost use Rattle.hm_codec.specs.Bounds.{max_len};
+ghost use Rattle.std.specs.Prelude.{◌≡◌, ◌≤◌, ◌↔◌, [], length, IsSome, IfSome};
 ghost use Rattle.hm_codec.specs.Writing.{Adds};
 
 use std::marker::Model;

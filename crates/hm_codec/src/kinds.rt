@@ -73,17 +73,31 @@ pub(crate) fn put_packet(head: Head, bytes: &[u8], packet: &mut Packet) -> Resul
 }
 
 /// Reads the packet of a stamped read.
-pub(crate) fn fast_read_packet(head: Head, bytes: &[u8], packet: &mut Packet) -> Result<(), Malformed>
+pub(crate) fn fast_read_packet(
+    head: Head,
+    bytes: &[u8],
+    packet: &mut Packet,
+) -> Result<(), Malformed>
     requires src { IsLawfulNode head.src }
     requires dst { IsLawfulNode head.dst }
     ensures read { placed result packet.new ≡ located head.len (end_with head.src head.dst (as_body (λ b. body.FastRead b) (reading.fast_read_at bytes.now))) }
     ensures err { OnErr result (packet.new ≡ packet.old) }
 {
-    packet!(packet, head, fast_read_at(bytes), fields, Body::FastRead(fields))
+    packet!(
+        packet,
+        head,
+        fast_read_at(bytes),
+        fields,
+        Body::FastRead(fields)
+    )
 }
 
 /// Reads the packet of a read that goes the normal way.
-pub(crate) fn normal_read_packet(head: Head, bytes: &[u8], packet: &mut Packet) -> Result<(), Malformed>
+pub(crate) fn normal_read_packet(
+    head: Head,
+    bytes: &[u8],
+    packet: &mut Packet,
+) -> Result<(), Malformed>
     requires src { IsLawfulNode head.src }
     requires dst { IsLawfulNode head.dst }
     ensures read { placed result packet.new ≡ located head.len (end_with head.src head.dst (as_body (λ b. body.NormalRead b) (reading.normal_read_at bytes.now))) }
@@ -147,13 +161,23 @@ pub(crate) fn feed_packet<'a>(
 }
 
 /// Reads the packet of how long a list is held.
-pub(crate) fn feed_ack_packet(head: Head, bytes: &[u8], packet: &mut Packet) -> Result<(), Malformed>
+pub(crate) fn feed_ack_packet(
+    head: Head,
+    bytes: &[u8],
+    packet: &mut Packet,
+) -> Result<(), Malformed>
     requires src { IsLawfulNode head.src }
     requires dst { IsLawfulNode head.dst }
     ensures read { placed result packet.new ≡ located head.len (end_with head.src head.dst (as_body (λ b. body.FeedAck b) (reading.feed_ack_at bytes.now))) }
     ensures err { OnErr result (packet.new ≡ packet.old) }
 {
-    packet!(packet, head, feed_ack_at(bytes), fields, Body::FeedAck(fields))
+    packet!(
+        packet,
+        head,
+        feed_ack_at(bytes),
+        fields,
+        Body::FeedAck(fields)
+    )
 }
 
 /// Reads the packet of a call for a completion.
@@ -177,7 +201,11 @@ pub(crate) fn known_packet(head: Head, bytes: &[u8], packet: &mut Packet) -> Res
 }
 
 /// Reads the packet of a view that is entered.
-pub(crate) fn start_view_change_packet(head: Head, bytes: &[u8], packet: &mut Packet) -> Result<(), Malformed>
+pub(crate) fn start_view_change_packet(
+    head: Head,
+    bytes: &[u8],
+    packet: &mut Packet,
+) -> Result<(), Malformed>
     requires src { IsLawfulNode head.src }
     requires dst { IsLawfulNode head.dst }
     ensures read { placed result packet.new ≡ located head.len (end_with head.src head.dst (as_body (λ b. body.StartViewChange b) (reading.start_view_change_at bytes.now))) }
@@ -275,5 +303,11 @@ pub(crate) fn refused_packet(head: Head, bytes: &[u8], packet: &mut Packet) -> R
     ensures read { placed result packet.new ≡ located head.len (end_with head.src head.dst (as_body (λ b. body.Refused b) (reading.refused_at bytes.now))) }
     ensures err { OnErr result (packet.new ≡ packet.old) }
 {
-    packet!(packet, head, refused_at(bytes), fields, Body::Refused(fields))
+    packet!(
+        packet,
+        head,
+        refused_at(bytes),
+        fields,
+        Body::Refused(fields)
+    )
 }

@@ -5,17 +5,13 @@ ghost use Rattle.hm_packet.specs.Messages.{Message};
 ghost use Rattle.hm_wire.specs.Packets.{max_spelling_len};
 ghost use Rattle.hm_codec.specs.Rows.{told_from, IsRow};
 
-use hm_wire::laws::{
-    reading_is_exact, spelling_has_no_fault, spelling_is_short, spelling_tells_the_packet,
-};
+use hm_wire::laws::{spelling_is_read_back, spelling_is_short};
 
 /// A row of packets tells those packets.
 pub(crate) fn row_tells_its_packets()
     ensures { (ends bytes : List ℕ) (packets : List Message) → IsRow ends bytes packets → told_from 0 ends bytes ≡ packets }
 {
-    reading_is_exact();
-    spelling_has_no_fault();
-    spelling_tells_the_packet();
+    spelling_is_read_back();
 }
 
 /// A row has no more bytes than so many of the longest spellings.

@@ -1,4 +1,4 @@
-ghost use Rattle.std.specs.Prelude.{◌≡◌, ◌≤◌, ◌<◌, ◌^◌, [], ◌∷◌, length, flat_map};
+ghost use Rattle.std.specs.Prelude.{◌≤◌, ◌<◌, ◌^◌, [], ◌∷◌, length, flat_map};
 ghost use Rattle.hm_base.specs.Logs.{max_page_len};
 ghost use Rattle.hm_base.specs.Padded.{max_value_len};
 ghost use Rattle.hm_base.specs.Rising.{IsMembers};
@@ -29,9 +29,7 @@ pub(crate) fn push_u32<const N: usize>(number: u32, buf: &mut Buf<N>)
 /// Appends a `u64`.
 #[inline(always)]
 pub(crate) fn push_u64<const N: usize>(number: u64, buf: &mut Buf<N>)
-    ensures writes { Writes N (grammar.number U64) (number ∷ []) buf.old buf.new }
-    ensures adds { Adds N buf.old buf.new (spelled U64 number) }
-    ensures range { number < 2 ^ 64 }
+    ensures { Writes N (grammar.number U64) (number ∷ []) buf.old buf.new }
 {
     buf.push(&number.to_be_bytes());
 }

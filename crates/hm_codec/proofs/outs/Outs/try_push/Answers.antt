@@ -1,10 +1,10 @@
-use Rattle.std.proofs.Common.{◌≡◌, ◌<◌, ◌≤◌, ◌*◌, ◌∷◌, ◌++◌, [], ℕ, List, length, sym, ap, subst, ◌∙◌, arith, rules}
+use Rattle.std.proofs.Common.{◌≡◌, ◌<◌, ◌≤◌, ◌*◌, ◌∷◌, ◌++◌, [], ℕ, List, length, ap, ◌∙◌, arith}
 use Rattle.std.proofs.lemmas.Bool.Decides.{nat_tests}
 use Rattle.std.proofs.lemmas.List.{length-append}
 use Rattle.hm_packet.specs.Messages.{Message}
 use Rattle.hm_packet.specs.Steps.{max_outs}
 use Rattle.hm_wire.specs.Packets.{spelling, max_spelling_len}
-use Rattle.hm_codec.specs.Rows.{told_from, IsRow}
+use Rattle.hm_codec.specs.Rows.{told_from}
 use Rattle.hm_codec.proofs.Rows.{Tells, length-told, tells_more}
 use Rattle.hm_codec.proofs.outs.Outs.try_push.Goals as goal
 
