@@ -6,3 +6,4 @@ pub mod Changing
 pub mod Kept
 pub mod Standing
 pub mod Ballots
+pub mod Parts

@@ -1,5 +1,5 @@
 -- Which replica of the rules a core and a view change together stand for, and what a call of a view change owes.
-use Rattle.std.specs.Prelude.{◌≡◌, ℕ, ◌<◌, ◌≤◌, List, length, Option, Some, None}
+use Rattle.std.specs.Prelude.{◌≡◌, ℕ, ◌%◌, ◌<◌, ◌≤◌, List, length, Option, Some, None}
 use Rattle.hm_base.specs.declared.entry.Entry.{Entry}
 use Rattle.hm_base.specs.declared.why.Why.{Why}
 use Rattle.hm_base.specs.Lists.{IsPrefix}
@@ -65,16 +65,21 @@ IsStep old before new after acted rule =
 pub record Fits (core : VrCore) (change : Changing) : Type 0 where
   pub me : core.me < core.size
   pub size : core.size ≤ 7
+  pub odd : core.size % 2 ≡ 1
   pub caps : change.cap ≡ core.shim.cap
   -- a list that is pulled begins with what is applied
   pub begins : core.status ≡ status.Pulling → IsPrefix (applied_entries core.shim) change.staged
 
--- what a step of the view change leaves
-pub record Leaves (old : VrCore) (before : Changing) (new : VrCore) (after : Changing) (acted : Acted) : Type 0 where
+-- the replica is the same one, and its core and its view change still fit
+pub record Stays (old new : VrCore) (after : Changing) : Type 0 where
   pub fits : Fits new after
   pub me : new.me ≡ old.me
   pub size : new.size ≡ old.size
   pub cap : new.shim.cap ≡ old.shim.cap
+
+-- what a step of the view change leaves
+pub record Leaves (old : VrCore) (before : Changing) (new : VrCore) (after : Changing) (acted : Acted) : Type 0 where
+  pub stays : Stays old new after
   -- a packet of which no notice is taken changes nothing
   pub core : (reason : Why) → acted.did ≡ did.Ignored reason → new ≡ old
   pub change : (reason : Why) → acted.did ≡ did.Ignored reason → after ≡ before

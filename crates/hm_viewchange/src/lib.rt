@@ -2,6 +2,7 @@
 //! takes (Liskov and Cowling, "Viewstamped Replication Revisited").
 #![tactic(auto)]
 
+pub mod packets;
 pub mod view_change;
 pub mod votes;
 pub mod vr_core;
