@@ -1,0 +1,2 @@
+mod Votings
+mod Alike
