@@ -1,6 +1,7 @@
 -- No rule of a view change reads what was acknowledged, or what a backup stages.
 use Rattle.std.proofs.Common.{◌≡◌, ℕ, Bool, true, false, List, [], ◌∷◌, ◌++◌, Option, Some, None, refl, sym, ap, ◌∙◌}
 use Rattle.std.specs.Prelude.{◌==◌, ◌&&◌, not, nat_lt, nat_le, if◌then◌else◌, length, is_some}
+use Rattle.std.proofs.lemmas.Bool.{false≢true}
 use Rattle.hm_base.specs.declared.entry.Entry.{Entry}
 use Rattle.hm_codec.specs.declared.acted.Acted.{Acted}
 use Rattle.hm_packet.specs.declared.acted.Did.{Did}
@@ -19,17 +20,17 @@ use Rattle.hm_viewchange.specs.Changing.{Changing}
 use Rattle.hm_viewchange.specs.Parts.{stands}
 use Rattle.hm_viewchange.specs.Standing.{status_of, staged_in, replica_of, acked_after, IsStep}
 
-staged_by : Status → Option (List Entry) → Option (List Entry) → Option (List Entry)
+abbrev staged_by : Status → Option (List Entry) → Option (List Entry) → Option (List Entry)
 staged_by Status.Normal fed staged = staged
 staged_by Status.Change fed staged = staged
 staged_by Status.Pulling fed staged = staged
 staged_by Status.Staging fed staged = fed
 
 -- the replica where this is acknowledged, and this staged by a backup
-pub dressed : List ℕ → Option (List Entry) → Replica → Replica
+abbrev pub dressed : List ℕ → Option (List Entry) → Replica → Replica
 dressed acked fed r = record r { acked = acked; staged = staged_by r.status fed r.staged }
 
-pub kept_after : Did → Status → List ℕ → List ℕ
+abbrev pub kept_after : Did → Status → List ℕ → List ℕ
 kept_after did.Done Status.Normal acked = none_acked
 kept_after did.Done Status.Change acked = acked
 kept_after did.Done Status.Pulling acked = acked
@@ -37,7 +38,7 @@ kept_after did.Done Status.Staging acked = acked
 kept_after (did.Ignored reason) now acked = acked
 kept_after did.LogFull now acked = acked
 
-pub dress : List ℕ → Option (List Entry) → Stepped → Stepped
+abbrev pub dress : List ℕ → Option (List Entry) → Stepped → Stepped
 dress acked fed s = record s { replica = dressed (kept_after s.did s.replica.status acked) fed s.replica }
 
 staged_alike : (now : VrStatus) (fed : Option (List Entry)) (pulled : List Entry) → staged_in now fed pulled ≡ staged_by (status_of now) fed (staged_in now None pulled)
@@ -70,7 +71,7 @@ lifted old before new after acted rule alike step acked fed =
 -- ---- the rules, one by one
 
 -- what stays acknowledged after a step that leaves the status
-pub Stays : Status → List ℕ → Type 0
+abbrev pub Stays : Status → List ℕ → Type 0
 Stays now acked = kept_after did.Done now acked ≡ acked
 
 sends_alike : (acked : List ℕ) (fed : Option (List Entry)) (r : Replica) (outs : List Message) → Stays r.status acked → sends (dressed acked fed r) outs ≡ dress acked fed (sends r outs)
@@ -118,3 +119,17 @@ checks_alike acked fed r stays =
 
 pub enters_alike : (acked : List ℕ) (fed : Option (List Entry)) (r : Replica) (view : ℕ) → rules.enters view (dressed acked fed r) ≡ dress acked fed (rules.enters view r)
 enters_alike acked fed r view = ap (sends_first (rules.start_to_others (rules.entered view r))) (checks_alike acked fed (rules.entered view r) refl)
+
+-- ---- what follows news of a view
+
+kept_twice : (now : Status) (acked : List ℕ) → Stays now (kept_after did.Done now acked)
+kept_twice Status.Normal acked = refl
+kept_twice Status.Change acked = refl
+kept_twice Status.Pulling acked = refl
+kept_twice Status.Staging acked = refl
+
+kept_change : (now : Status) (acked : List ℕ) → votes.is_change now ≡ true → Stays now acked
+kept_change Status.Normal acked is = absurd (false≢true is)
+kept_change Status.Change acked is = refl
+kept_change Status.Pulling acked is = absurd (false≢true is)
+kept_change Status.Staging acked is = absurd (false≢true is)

@@ -1,2 +1,4 @@
 mod Votings
 mod Alike
+mod Entering
+mod Steps
