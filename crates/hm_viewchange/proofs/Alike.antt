@@ -71,10 +71,10 @@ lifted old before new after acted rule alike step acked fed =
 -- ---- the rules, one by one
 
 -- what stays acknowledged after a step that leaves the status
-abbrev pub Stays : Status → List ℕ → Type 0
-Stays now acked = kept_after did.Done now acked ≡ acked
+abbrev pub Rests : Status → List ℕ → Type 0
+Rests now acked = kept_after did.Done now acked ≡ acked
 
-sends_alike : (acked : List ℕ) (fed : Option (List Entry)) (r : Replica) (outs : List Message) → Stays r.status acked → sends (dressed acked fed r) outs ≡ dress acked fed (sends r outs)
+sends_alike : (acked : List ℕ) (fed : Option (List Entry)) (r : Replica) (outs : List Message) → Rests r.status acked → sends (dressed acked fed r) outs ≡ dress acked fed (sends r outs)
 sends_alike acked fed r outs stays = ap (λ (a : List ℕ). sends (dressed a fed r) outs) (sym stays)
 
 fetches_alike : (acked : List ℕ) (fed : Option (List Entry)) (r : Replica) (chosen : ℕ) (vote : Vote) → rules.fetches chosen vote (dressed acked fed r) ≡ dress acked fed (rules.fetches chosen vote r)
@@ -88,7 +88,7 @@ fetches_alike acked fed r chosen vote =
       | false ↦ refl
     ]
 
-chooses_alike : (acked : List ℕ) (fed : Option (List Entry)) (r : Replica) (best : Option votes.Ballot) → Stays r.status acked → rules.chooses (dressed acked fed r) best ≡ dress acked fed (rules.chooses r best)
+chooses_alike : (acked : List ℕ) (fed : Option (List Entry)) (r : Replica) (best : Option votes.Ballot) → Rests r.status acked → rules.chooses (dressed acked fed r) best ≡ dress acked fed (rules.chooses r best)
 chooses_alike acked fed r None stays = sends_alike acked fed r [] stays
 chooses_alike acked fed r (Some b) stays =
     elim (b.voter == r.me) as (λ (own : Bool). (if own then sends (rules.begun (dressed acked fed r)) [] else rules.fetches b.voter b.vote (dressed acked fed r)) ≡ dress acked fed (if own then sends (rules.begun r) [] else rules.fetches b.voter b.vote r)) [
@@ -96,21 +96,21 @@ chooses_alike acked fed r (Some b) stays =
       | false ↦ fetches_alike acked fed r b.voter b.vote
     ]
 
-tallies_alike : (acked : List ℕ) (fed : Option (List Entry)) (r : Replica) → Stays r.status acked → rules.tallies (dressed acked fed r) ≡ dress acked fed (rules.tallies r)
+tallies_alike : (acked : List ℕ) (fed : Option (List Entry)) (r : Replica) → Rests r.status acked → rules.tallies (dressed acked fed r) ≡ dress acked fed (rules.tallies r)
 tallies_alike acked fed r stays =
     elim (is_some (votes.vote_of r r.me) && nat_lt (votes.faults r) (length (votes.ballots r))) as (λ (b : Bool). (if b then rules.chooses (dressed acked fed r) (votes.best (votes.ballots r)) else sends (dressed acked fed r) []) ≡ dress acked fed (if b then rules.chooses r (votes.best (votes.ballots r)) else sends r [])) [
       | true ↦ chooses_alike acked fed r (votes.best (votes.ballots r)) stays
       | false ↦ sends_alike acked fed r [] stays
     ]
 
-with_own_alike : (acked : List ℕ) (fed : Option (List Entry)) (r : Replica) → Stays r.status acked → rules.tallies (rules.with_own_vote (dressed acked fed r)) ≡ dress acked fed (rules.tallies (rules.with_own_vote r))
+with_own_alike : (acked : List ℕ) (fed : Option (List Entry)) (r : Replica) → Rests r.status acked → rules.tallies (rules.with_own_vote (dressed acked fed r)) ≡ dress acked fed (rules.tallies (rules.with_own_vote r))
 with_own_alike acked fed r stays =
     elim (nat_le (votes.faults r) (votes.heard_count r) && not (is_some (votes.vote_of r r.me))) as (λ (b : Bool). rules.tallies (if b then votes.with_vote r.me (votes.own_vote r) (dressed acked fed r) else dressed acked fed r) ≡ dress acked fed (rules.tallies (if b then votes.with_vote r.me (votes.own_vote r) r else r))) [
       | true ↦ tallies_alike acked fed (votes.with_vote r.me (votes.own_vote r) r) stays
       | false ↦ tallies_alike acked fed r stays
     ]
 
-pub checks_alike : (acked : List ℕ) (fed : Option (List Entry)) (r : Replica) → Stays r.status acked → rules.checks (dressed acked fed r) ≡ dress acked fed (rules.checks r)
+pub checks_alike : (acked : List ℕ) (fed : Option (List Entry)) (r : Replica) → Rests r.status acked → rules.checks (dressed acked fed r) ≡ dress acked fed (rules.checks r)
 checks_alike acked fed r stays =
     elim (votes.is_own_view r) as (λ (b : Bool). (if b then rules.tallies (rules.with_own_vote (dressed acked fed r)) else sends (dressed acked fed r) (rules.votes_if_due r)) ≡ dress acked fed (if b then rules.tallies (rules.with_own_vote r) else sends r (rules.votes_if_due r))) [
       | true ↦ with_own_alike acked fed r stays
@@ -122,14 +122,40 @@ enters_alike acked fed r view = ap (sends_first (rules.start_to_others (rules.en
 
 -- ---- what follows news of a view
 
-kept_twice : (now : Status) (acked : List ℕ) → Stays now (kept_after did.Done now acked)
+kept_twice : (now : Status) (acked : List ℕ) → Rests now (kept_after did.Done now acked)
 kept_twice Status.Normal acked = refl
 kept_twice Status.Change acked = refl
 kept_twice Status.Pulling acked = refl
 kept_twice Status.Staging acked = refl
 
-kept_change : (now : Status) (acked : List ℕ) → votes.is_change now ≡ true → Stays now acked
+kept_change : (now : Status) (acked : List ℕ) → votes.is_change now ≡ true → Rests now acked
 kept_change Status.Normal acked is = absurd (false≢true is)
 kept_change Status.Change acked is = refl
 kept_change Status.Pulling acked is = absurd (false≢true is)
 kept_change Status.Staging acked is = absurd (false≢true is)
+
+-- what is noted of a replica, and leaves its status, what is acknowledged and what is staged
+pub record IsNote (notes : Replica → Replica) : Type 0 where
+  pub alike : (acked : List ℕ) (fed : Option (List Entry)) (r : Replica) → notes (dressed acked fed r) ≡ dressed acked fed (notes r)
+  pub status : (r : Replica) → (notes r).status ≡ r.status
+
+pub equal_alike : (notes : Replica → Replica) → IsNote notes → (acked : List ℕ) (fed : Option (List Entry)) (r : Replica) → votes.is_change r.status ≡ true
+    → rules.then_checks (sends (dressed acked fed r) []) notes ≡ dress acked fed (rules.then_checks (sends r []) notes)
+equal_alike notes note acked fed r change =
+    ap (sends_first []) (ap rules.checks (note.alike acked fed r) ∙ checks_alike acked fed (notes r) (kept_change (notes r).status acked (ap votes.is_change (note.status r) ∙ change)))
+
+pub later_alike : (notes : Replica → Replica) → IsNote notes → (acked : List ℕ) (fed : Option (List Entry)) (r : Replica) (view : ℕ) → (rules.enters view r).did ≡ did.Done
+    → (let first : Stepped = rules.enters view r in let all : Stepped = rules.then_checks first notes in
+      kept_after all.did all.replica.status (kept_after first.did first.replica.status acked) ≡ kept_after all.did all.replica.status acked)
+    → rules.then_checks (rules.enters view (dressed acked fed r)) notes ≡ dress acked fed (rules.then_checks (rules.enters view r) notes)
+later_alike notes note acked fed r view done same =
+    let first : Stepped = rules.enters view r in
+    let now : Status = first.replica.status in
+    let between : List ℕ = kept_after first.did now acked in
+    let second : Stepped = rules.checks (notes first.replica) in
+    let rests : Rests (notes first.replica).status between =
+      ap (λ (s : Status). kept_after did.Done s between) (note.status first.replica)
+      ∙ ap (λ (d : Did). kept_after did.Done now (kept_after d now acked)) done ∙ kept_twice now acked ∙ ap (λ (d : Did). kept_after d now acked) (sym done) in
+    ap (λ (s : Stepped). rules.then_checks s notes) (enters_alike acked fed r view)
+    ∙ ap (sends_first first.outs) (ap rules.checks (note.alike between fed first.replica) ∙ checks_alike between fed (notes first.replica) rests)
+    ∙ ap (λ (a : List ℕ). sends_first first.outs (record second { replica = dressed a fed second.replica })) same

@@ -2,3 +2,4 @@ mod Votings
 mod Alike
 mod Entering
 mod Steps
+mod News
