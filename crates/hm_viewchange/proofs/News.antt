@@ -185,3 +185,50 @@ vote_leads r from view vote first = record {
   many = later_vote r view from vote;
   alone = λ a. alone_vote r view from vote a (first a);
 }
+
+-- the rules' step of a replica that this core and this view change stand for, whatever else is said of it
+pub start_step : (old : VrCore) (before : Changing) (new : VrCore) (after : Changing) (acted : Acted) (from : ℕ) (start : StartViewChange) → Fits old before
+    → nat_lt start.view old.view ≡ false → nat_lt from (length (numbers_from 0 old.size)) ≡ true → stale start.view (votes.was_heard (stands old before) from) (stands old before) ≡ None
+    → step_of (stands new after) acted ≡ noted start.view (votes.with_heard from) (stands old before)
+    → IsStep old before new after acted (λ r. rules.on_start r from start)
+start_step old before new after acted from start fits now member is step =
+    let r : Replica = stands old before in
+    lifted old before new after acted (λ q. rules.on_start q from start)
+    (λ acked fed.
+      started (dressed acked fed r) from start now member is
+      ∙ noted_alike (votes.with_heard from) start.view (votes.was_heard r from) r (start_leads r from start.view) (grouped old before fits) is acked fed
+      ∙ ap (dress acked fed) (sym (started r from start now member is)))
+    (step ∙ sym (started r from start now member is))
+
+pub start_leaves : (old : VrCore) (before : Changing) (new : VrCore) (after : Changing) (acted : Acted) (from : ℕ) (start : StartViewChange) → Fits old before → Stays old new after
+    → stale start.view (votes.was_heard (stands old before) from) (stands old before) ≡ None
+    → step_of (stands new after) acted ≡ noted start.view (votes.with_heard from) (stands old before) → Leaves old before new after acted
+start_leaves old before new after acted from start fits stays is step =
+    let r : Replica = stands old before in
+    leaves_of old before new after acted _ stays step (noted_ends (votes.with_heard from) start.view (votes.was_heard r from) r (start_leads r from start.view) (grouped old before fits) is)
+
+-- in a group of one there is no number but 0
+only_number : (old : VrCore) (before : Changing) (from : ℕ) → from < old.size → Alone (stands old before) → from ≡ 0
+only_number old before from less a =
+    let e : old.size ≡ length (numbers_from 0 old.size) = length_numbers old.size in
+    omega (arith, e, less, ap (λ (l : List ℕ). length l) a.members)
+
+pub vote_step : (old : VrCore) (before : Changing) (new : VrCore) (after : Changing) (acted : Acted) (from : ℕ) (vote : Vote) → Fits old before
+    → nat_lt vote.view old.view ≡ false → rules.is_unlawful (stands old before) from vote ≡ false → from < old.size → stale vote.view (is_some (votes.vote_of (stands old before) from)) (stands old before) ≡ None
+    → step_of (stands new after) acted ≡ noted vote.view (votes.with_vote from vote) (stands old before)
+    → IsStep old before new after acted (λ r. rules.on_vote r from vote)
+vote_step old before new after acted from vote fits now lawful less is step =
+    let r : Replica = stands old before in
+    lifted old before new after acted (λ q. rules.on_vote q from vote)
+    (λ acked fed.
+      voted (dressed acked fed r) from vote now lawful is
+      ∙ noted_alike (votes.with_vote from vote) vote.view (is_some (votes.vote_of r from)) r (vote_leads r from vote.view vote (only_number old before from less)) (grouped old before fits) is acked fed
+      ∙ ap (dress acked fed) (sym (voted r from vote now lawful is)))
+    (step ∙ sym (voted r from vote now lawful is))
+
+pub vote_leaves : (old : VrCore) (before : Changing) (new : VrCore) (after : Changing) (acted : Acted) (from : ℕ) (vote : Vote) → Fits old before → Stays old new after → from < old.size
+    → stale vote.view (is_some (votes.vote_of (stands old before) from)) (stands old before) ≡ None
+    → step_of (stands new after) acted ≡ noted vote.view (votes.with_vote from vote) (stands old before) → Leaves old before new after acted
+vote_leaves old before new after acted from vote fits stays less is step =
+    let r : Replica = stands old before in
+    leaves_of old before new after acted _ stays step (noted_ends (votes.with_vote from vote) vote.view (is_some (votes.vote_of r from)) r (vote_leads r from vote.view vote (only_number old before from less)) (grouped old before fits) is)
