@@ -42,7 +42,8 @@ pub fn primary_of(core: &VrCore, view: u32) -> u8
 
 /// What this replica votes.
 pub(crate) fn own_vote(core: &VrCore) -> Vote
-    ensures { result ≡ votes.own_vote (bare core.now) }
+    ensures value { result ≡ votes.own_vote (bare core.now) }
+    ensures room { result.len ≤ core.now.shim.cap }
 {
     Vote {
         view: core.view,

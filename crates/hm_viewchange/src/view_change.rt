@@ -1,4 +1,4 @@
-ghost use Rattle.std.specs.Prelude.{◌≡◌, ◌<◌, ◌≤◌, ◌+◌, ◌-◌, ◌%◌, ◌++◌, ◌∷◌, ◌==◌, [], true, false, length, drop, IfOk, IfSome, Some, Option, List, ℕ, nat_lt, if◌then◌else◌};
+ghost use Rattle.std.specs.Prelude.{◌≡◌, ◌<◌, ◌≤◌, ◌+◌, ◌-◌, ◌%◌, ◌++◌, ◌∷◌, ◌==◌, [], true, false, length, drop, IfOk, IfSome, Some, Option, List, ℕ, nat_lt, nat_le, not, ◌&&◌, is_some, count_by, slice_get, slice_set};
 ghost use Rattle.hm_base.specs.Lists.{IsPrefix};
 ghost use Rattle.hm_packet.specs.Steps.{max_outs};
 ghost use Rattle.hm_replica.specs.Steps.{step_of, sends_act};
@@ -90,8 +90,8 @@ impl ViewChange {
         if from >= u32::from(group_size(core)) {
             return ignore(acted, Why::Foreign);
         }
-        let from = from as usize;
-        match stale(core, start.view, self.heard[from]) {
+        let from = from as u8;
+        match stale(core, start.view, self.was_heard(from)) {
             Some(why) => ignore(acted, why),
             None => self.note_start(core, from, start.view, acted),
         }
@@ -109,8 +109,8 @@ impl ViewChange {
         if is_unlawful(core, from, vote) {
             return ignore(acted, Why::Foreign);
         }
-        let from = from as usize;
-        match stale(core, vote.view, self.votes[from].is_some()) {
+        let from = from as u8;
+        match stale(core, vote.view, self.vote_of(from).is_some()) {
             Some(why) => ignore(acted, why),
             None => self.note_vote(core, from, vote, acted),
         }
@@ -188,7 +188,7 @@ impl ViewChange {
     }
 
     /// Notes that a replica enters a view, and checks what follows.
-    fn note_start(&mut self, core: &mut VrCore, from: usize, view: u32, acted: &mut Acted)
+    fn note_start(&mut self, core: &mut VrCore, from: u8, view: u32, acted: &mut Acted)
         requires fits { Fits core.old self.old }
         requires from { from ≤ 6 }
         ensures step { step_of (stands core.new self.new) acted.new ≡ parts.noted view (votes.with_heard from) (stands core.old self.old) }
@@ -196,12 +196,12 @@ impl ViewChange {
     {
         send_none(acted);
         self.enter_later(core, view, &mut acted.outs);
-        self.heard[from] = true;
+        self.heard[from as usize] = true;
         self.check(core, &mut acted.outs);
     }
 
     /// Notes a replica's vote in a view, and checks what follows.
-    fn note_vote(&mut self, core: &mut VrCore, from: usize, vote: &Vote, acted: &mut Acted)
+    fn note_vote(&mut self, core: &mut VrCore, from: u8, vote: &Vote, acted: &mut Acted)
         requires fits { Fits core.old self.old }
         requires from { from ≤ 6 }
         requires room { vote.now.len ≤ core.old.shim.cap }
@@ -210,7 +210,7 @@ impl ViewChange {
     {
         send_none(acted);
         self.enter_later(core, vote.view, &mut acted.outs);
-        self.votes[from] = Some(*vote);
+        self.put_vote(from, *vote);
         self.check(core, &mut acted.outs);
     }
 
@@ -237,9 +237,51 @@ impl ViewChange {
         ensures vote { stands core.now self.new ≡ rules.with_own_vote (stands core.now self.old) }
         ensures fits { Fits core.now self.new }
     {
-        if count_heard(&self.heard) >= faults(core) && self.votes[core.me as usize].is_none() {
-            self.votes[core.me as usize] = Some(own_vote(core));
+        if self.owes_own_vote(core) {
+            self.put_vote(core.me, own_vote(core));
         }
+    }
+
+    /// Whether f others were heard and the own vote isn't there yet.
+    fn owes_own_vote(&self, core: &VrCore) -> bool
+        requires fits { Fits core.now self.now }
+        ensures { result ≡ (nat_le (votes.faults (bare core.now)) (count_by (λ h. h) self.now.heard) && not (is_some (votes.or_none (slice_get self.now.votes core.now.me)))) }
+    {
+        count_heard(&self.heard) >= faults(core) && self.vote_of(core.me).is_none()
+    }
+
+    /// Whether the own vote and more than f votes in all are there.
+    fn has_quorum(&self, core: &VrCore) -> bool
+        requires fits { Fits core.now self.now }
+        ensures { result ≡ (is_some (votes.or_none (slice_get self.now.votes core.now.me)) && nat_lt (votes.faults (bare core.now)) (length (votes.ballots_from 0 self.now.votes))) }
+    {
+        self.vote_of(core.me).is_some() && count_votes(&self.votes) > faults(core)
+    }
+
+    /// The vote of a replica, if it voted.
+    fn vote_of(&self, voter: u8) -> Option<Vote>
+        requires { voter ≤ 6 }
+        ensures value { result ≡ votes.or_none (slice_get self.now.votes voter) }
+        ensures room { IfSome result (λ vote. vote.len ≤ self.now.cap) }
+    {
+        self.votes[voter as usize]
+    }
+
+    /// Notes a replica's vote.
+    fn put_vote(&mut self, voter: u8, vote: Vote)
+        requires voter { voter ≤ 6 }
+        requires room { vote.len ≤ self.old.cap }
+        ensures { self.new ≡ record self.old { votes = slice_set self.old.votes voter (Some vote) } }
+    {
+        self.votes[voter as usize] = Some(vote);
+    }
+
+    /// Whether a replica was heard to enter the view.
+    fn was_heard(&self, from: u8) -> bool
+        requires { from ≤ 6 }
+        ensures { result ≡ votes.is_heard (slice_get self.now.heard from) }
+    {
+        self.heard[from as usize]
     }
 
     /// With the own vote and f + 1 votes in all the best log is taken.
@@ -250,7 +292,7 @@ impl ViewChange {
         ensures stays { Stays core.old core.new self.new }
         ensures few { length outs.new ≤ length outs.old + 1 }
     {
-        if self.votes[core.me as usize].is_some() && count_votes(&self.votes) > faults(core) {
+        if self.has_quorum(core) {
             self.choose(core, outs);
         }
     }
@@ -302,7 +344,7 @@ impl ViewChange {
 
     /// The view begins with the log as it is, of which as much is applied as any vote knew to be committed.
     fn begin(&mut self, core: &mut VrCore)
-        requires fits { Fits core.old self.old }
+        requires fits { Fits (record core.old { status = VrStatus.Normal }) self.old }
         ensures begun { stands core.new self.new ≡ rules.begun (stands core.old self.old) }
         ensures stays { Stays core.old core.new self.new }
     {
@@ -323,7 +365,7 @@ impl ViewChange {
         ensures voter { IfSome result (λ b. b.voter ≤ 6) }
     {
         let voter = self.choice?;
-        match self.votes[voter as usize] {
+        match self.vote_of(voter) {
             Some(vote) => Some(Ballot { voter, vote }),
             None => None,
         }
@@ -336,7 +378,7 @@ impl ViewChange {
         requires voter { chosen.now.voter ≤ 6 }
         requires room { chosen.now.vote.len ≤ self.old.cap }
         ensures step { step_of (stands core.new self.new) acted.new ≡ rules.takes_page (stands core.old self.old) from page.now self.old.staged (Some (ballot_of chosen.now)) }
-        ensures stays { Stays core.old core.new self.new }
+        ensures leaves { Leaves core.old self.old core.new self.new acted.new }
     {
         let end = u64::from(page.first) + u64::from(page.entries.len());
         let held = self.staged.len();
@@ -415,7 +457,9 @@ fn stale(core: &VrCore, view: u32, known: bool) -> Option<Why>
 /// Whether a vote isn't for this replica, not of a member, or of lengths that can't be.
 fn is_unlawful(core: &VrCore, from: u32, vote: &Vote) -> bool
     requires me { core.now.me < core.now.size }
-    ensures { result ≡ rules.is_unlawful (bare core.now) from vote.now }
+    ensures value { result ≡ rules.is_unlawful (bare core.now) from vote.now }
+    ensures from { result ≡ false → from < core.now.size }
+    ensures room { result ≡ false → vote.now.len ≤ core.now.shim.cap }
 {
     primary_of(core, vote.view) != core.me
         || from >= u32::from(group_size(core))
