@@ -1,3 +1,6 @@
+mod Tests
+mod Digits
+mod HexDigits
 mod HexTexts
 pub mod ListLaws
 pub mod StampLaws

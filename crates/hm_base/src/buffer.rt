@@ -86,8 +86,22 @@ impl Text {
         ensures err { OnErr result (self.new.items ≡ self.old.items) }
     {
         if self.room.len() - self.len < bytes.len() {
-            make_room(&mut self.room, self.len, bytes.len())?;
+            return self.put_in_more_room(bytes);
         }
+        let end = self.len + bytes.len();
+        self.room[self.len..end].copy_from_slice(bytes);
+        self.len = end;
+        Ok(())
+    }
+
+    /// Makes room and appends bytes.
+    #[cold]
+    #[inline(never)]
+    fn put_in_more_room(&mut self, bytes: &[u8]) -> Result<(), NoMemory>
+        ensures ok { OnOk result (self.new.items ≡ self.old.items ++ bytes.now) }
+        ensures err { OnErr result (self.new.items ≡ self.old.items) }
+    {
+        make_room(&mut self.room, self.len, bytes.len())?;
         let end = self.len + bytes.len();
         self.room[self.len..end].copy_from_slice(bytes);
         self.len = end;

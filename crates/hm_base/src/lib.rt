@@ -4,6 +4,7 @@
 pub mod buffer;
 pub mod entries;
 pub mod entry;
+mod hexadecimal;
 pub mod members;
 pub mod memory;
 pub mod node;

@@ -3,7 +3,8 @@ ghost use Rattle.hm_base.specs.Padded.{max_value_len};
 ghost use Rattle.hm_base.specs.Spellings.{value_text};
 ghost use Rattle.hex.specs.Hex.{IsBytes, encode_lower};
 
-use crate::value::{MAX_VALUE_LEN, Value};
+use crate::hexadecimal::read_digits;
+use crate::value::Value;
 use itoa::Buffer;
 use std::str;
 
@@ -44,43 +45,6 @@ pub fn read_number(text: &[u8]) -> Option<u64>
     }
 }
 
-/// Decodes a text's hexadecimal digits, two for each byte, in upper or lower case; false where a digit is none.
-fn decode_digits(text: &[u8], bytes: &mut [u8]) -> bool
-    requires { length bytes.old ≡ length text.now / 2 }
-    ensures { (v : List ℕ) → IsBytes v → text.now ≡ encode_lower v → IsTrue result × (bytes.new ≡ v) }
-{
-    hex::decode_to_slice(text, bytes).is_ok()
-}
-
-/// The bytes of a text's hexadecimal digits, in upper or lower case.
-fn hex_bytes(text: &[u8]) -> Option<Value>
-    ensures none { IfNone result ((v : List ℕ) → IsBytes v → length v ≤ max_value_len → text.now ≢ encode_lower v) }
-    ensures only { IfSome result (λ bytes. (v : List ℕ) → IsBytes v → text.now ≡ encode_lower v → v ≡ bytes) }
-{
-    let count = text.len() / 2;
-    if count > MAX_VALUE_LEN {
-        return None;
-    }
-    let mut room = [0; MAX_VALUE_LEN];
-    let bytes = &mut room[..count];
-    if decode_digits(text, bytes) {
-        Value::from_slice(bytes)
-    } else {
-        None
-    }
-}
-
-/// Whether a text spells the bytes in lower-case hexadecimal.
-fn is_hex_of(bytes: &[u8], text: &[u8]) -> bool
-    requires { length bytes.now ≤ max_value_len }
-    ensures { IsTrue result ↔ (text.now ≡ encode_lower bytes.now) }
-{
-    let mut room = [0; 2 * MAX_VALUE_LEN];
-    let digits = &mut room[..2 * bytes.len()];
-    let _ = hex::encode_to_slice(bytes, digits);
-    text == digits
-}
-
 /// The value that a text spells: `empty` for no bytes, else 2 to 128 lower-case hexadecimal digits. None exactly for any other text.
 pub fn read_value(text: &[u8]) -> Option<Value>
     ensures some { IfSome result (λ v. text.now ≡ value_text v) }
@@ -93,15 +57,5 @@ pub fn read_value(text: &[u8]) -> Option<Value>
     if text.is_empty() {
         return None;
     }
-    match hex_bytes(text) {
-        Some(value) => {
-            let bytes = value.as_slice();
-            if is_hex_of(bytes, text) {
-                Some(value)
-            } else {
-                None
-            }
-        }
-        None => None,
-    }
+    read_digits(text)
 }

@@ -1,5 +1,5 @@
-ghost use Rattle.std.specs.Prelude.{◌≡◌, ◌-◌, ◌≤◌, ◌↔◌, ◌++◌, length, replicate, IsSome, IfSome, IsTrue};
-ghost use Rattle.hm_base.specs.Padded.{max_value_len};
+ghost use Rattle.std.specs.Prelude.{◌≡◌, ◌-◌, ◌≤◌, ◌↔◌, ◌++◌, length, take, replicate, IsSome, IfSome, IsTrue};
+ghost use Rattle.hm_base.specs.Padded.{max_value_len, IsPadded};
 
 use std::marker::Model;
 
@@ -43,7 +43,33 @@ impl Value {
         })
     }
 
+    /// The value of the first bytes, behind which there are zeros.
+    #[inline(always)]
+    pub(crate) fn of_padded(bytes: [u8; MAX_VALUE_LEN], len: u8) -> Value
+        requires { IsPadded len bytes }
+        ensures { result ≡ take len bytes }
+    {
+        Value { bytes, len }
+    }
+
+    /// The bytes, with zeros behind them, so that a writer can copy a constant number of bytes.
+    #[inline(always)]
+    pub fn padded(&self) -> &[u8; MAX_VALUE_LEN]
+        ensures { result.now ≡ self.now ++ replicate (max_value_len - length self.now) 0 }
+    {
+        &self.bytes
+    }
+
+    /// How many bytes there are, at most [`MAX_VALUE_LEN`].
+    #[inline(always)]
+    pub fn len(&self) -> u8
+        ensures { result ≡ length self.now }
+    {
+        self.len
+    }
+
     /// The bytes.
+    #[inline(always)]
     pub fn as_slice(&self) -> &[u8]
         ensures same { result.now ≡ self.now }
         ensures fits { length result.now ≤ max_value_len }
@@ -53,14 +79,13 @@ impl Value {
 }
 
 /// The bytes, with zeros behind them.
+#[inline(always)]
 fn padded(bytes: &[u8]) -> [u8; MAX_VALUE_LEN]
     requires { length bytes.now ≤ max_value_len }
     ensures { result ≡ bytes.now ++ replicate (max_value_len - length bytes.now) 0 }
 {
     let mut padded = [0; MAX_VALUE_LEN];
-    for i in 0..bytes.len() {
-        padded[i] = bytes[i];
-    }
+    padded[..bytes.len()].copy_from_slice(bytes);
     padded
 }
 

@@ -1,7 +1,7 @@
 ghost use Rattle.std.specs.Prelude.{◌≡◌, ◌<◌, ◌≤◌, ◌+◌, ◌*◌, ◌^◌, [], ◌∷◌, ◌++◌, length, map, All, slice_get, slice_index, vec_len, vec_capacity, Some, None, if◌then◌else◌, OnOk, OnErr};
 ghost use Rattle.std.specs.Option.{option_copied, option_map};
 ghost use Rattle.hm_packet.specs.Steps.{max_outs};
-ghost use Rattle.hm_wire.specs.Packets.{spelling, max_spelling_len};
+ghost use Rattle.hm_wire.specs.Packets.{HasSpelling, spelling, max_spelling_len};
 ghost use Rattle.hm_codec.specs.Spelled.{max_spellings};
 
 use crate::buf::Buf;
@@ -109,7 +109,8 @@ impl Spellings {
     /// The spelling of the packet at a place, counted from 0. None exactly from `len()` on.
     #[inline(always)]
     pub fn get(&self, place: u32) -> Option<&[u8]>
-        ensures { option_copied result ≡ option_map spelling (slice_get self.now.packets place) }
+        ensures spelled { option_copied result ≡ option_map spelling (slice_get self.now.packets place) }
+        ensures lawful { All HasSpelling self.now.packets }
     {
         let place = place as usize;
         if place >= self.ends.len() {

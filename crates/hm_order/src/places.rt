@@ -57,7 +57,8 @@ fn note_invoke<K: Hash + Eq + Drop>(
     place: usize,
     count: usize,
 ) -> Result<(), NoMemory>
-    ensures { OnOk result ((q : K) → get K.eq ops.new q ≡ (if K.eq q op then Some (after_invoke (noted count (get K.eq ops.old q)) place) else get K.eq ops.old q)) }
+    ensures { OnOk result ((q : K) → get K.eq ops.new q
+        ≡ (if K.eq q op then Some (after_invoke (noted count (get K.eq ops.old q)) place) else get K.eq ops.old q)) }
 {
     let noted = ops.entry(op)?.or_insert(nowhere(count));
     noted.invoked = noted.invoked.min(place);
@@ -71,7 +72,8 @@ fn note_commit<K: Hash + Eq + Drop>(
     place: usize,
     count: usize,
 ) -> Result<(), NoMemory>
-    ensures { OnOk result ((q : K) → get K.eq ops.new q ≡ (if K.eq q op then Some (after_commit (noted count (get K.eq ops.old q)) place) else get K.eq ops.old q)) }
+    ensures { OnOk result ((q : K) → get K.eq ops.new q
+        ≡ (if K.eq q op then Some (after_commit (noted count (get K.eq ops.old q)) place) else get K.eq ops.old q)) }
 {
     let noted = ops.entry(op)?.or_insert(nowhere(count));
     noted.committed = noted.committed.min(place);
@@ -85,7 +87,8 @@ fn note_reply<K: Hash + Eq + Drop>(
     place: usize,
     count: usize,
 ) -> Result<(), NoMemory>
-    ensures { OnOk result ((q : K) → get K.eq ops.new q ≡ (if K.eq q op then Some (after_reply (noted count (get K.eq ops.old q)) place) else get K.eq ops.old q)) }
+    ensures { OnOk result ((q : K) → get K.eq ops.new q
+        ≡ (if K.eq q op then Some (after_reply (noted count (get K.eq ops.old q)) place) else get K.eq ops.old q)) }
 {
     let noted = ops.entry(op)?.or_insert(nowhere(count));
     noted.replied = noted.replied.min(place);
@@ -104,7 +107,7 @@ fn note_version<K: Hash + Eq + Drop>(
     Ok(())
 }
 
-/// No places, with room for those of so many marks, where each op has two of them and each stamp stands in one of four.
+/// No places yet, with room for those of this many marks: as a rule an op has two of them or more, and one in four commits.
 fn none_yet(alloc: Global, count: usize) -> Result<Places, NoMemory>
     ensures { IfOk result (λ places. StandsFor count places []) }
 {

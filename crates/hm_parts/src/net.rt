@@ -85,6 +85,7 @@ impl Net {
         requires { self.old.cursor < length self.old.packets }
         ensures { self.new ≡ record self.old { cursor = self.old.cursor + 1 } }
     {
+        let _count = self.packets.len();
         self.cursor += 1;
     }
 

@@ -1,7 +1,5 @@
-ghost use Rattle.std.specs.Prelude.{◌≡◌, ◌≤◌, ◌+◌, ◌↔◌, ◌++◌, ◌∷◌, ◌==◌, [], true, false, None, length, map, slice_get, slice_index, All, IfOk, IsTrue};
+ghost use Rattle.std.specs.Prelude.{◌≡◌, ◌≤◌, ◌+◌, ◌↔◌, ◌++◌, ◌==◌, [], true, false, None, length, map, slice_get, slice_index, All, IfOk, IsTrue};
 ghost use Rattle.std.specs.List.{list_any};
-ghost use Rattle.hm_base.specs.Taking.{take_page};
-ghost use Rattle.hm_packet.specs.Steps.{max_outs};
 ghost use Rattle.hm_primary_backup.specs.Parts as parts;
 ghost use Rattle.hm_replica.specs.Given.{Gives};
 ghost use Rattle.hm_replica.specs.Steps.{step_of};

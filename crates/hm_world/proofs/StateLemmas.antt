@@ -1,6 +1,7 @@
 -- What holds of a state in an event.
-use Rattle.std.proofs.Common.{◌≡◌, ℕ, ◌+◌, ◌-◌, Bool, true, false, Option, Some, None, refl, sym, ap, ◌∙◌, subst, arith}
-use Rattle.std.specs.Prelude.{slice_get, is_some, ◌==◌}
+use Rattle.std.proofs.Common.{◌≡◌, ℕ, ◌+◌, ◌-◌, ◌<◌, Bool, true, false, Option, Some, None, refl, sym, ap, ◌∙◌, subst, arith}
+use Rattle.std.specs.Prelude.{slice_get, is_some, ◌==◌, if◌then◌else◌}
+use Rattle.std.proofs.lemmas.Bool.Decides.{nat_tests}
 use Rattle.std.proofs.lemmas.Bool.{cond_both, false≢true}
 use Rattle.std.proofs.lemmas.Option.{none-some}
 use Rattle.hm_base.specs.Lists.{IsIn}
@@ -43,6 +44,22 @@ keeps_same : (old : State) → Keeps old old
 keeps_same old = record { events = refl; net = refl; steps = omega arith; clients = omega arith; service = refl; group = refl }
 
 -- ---- packets
+
+pub read_nothing : (r : Bool) (m : Message) (o : Option Message) → (if r then Some m else None) ≡ o → r ≡ false → None ≡ o
+read_nothing r m o e not_read = subst (λ (b : Bool). (if b then Some m else None) ≡ o) not_read e
+
+pub read_packet : (r : Bool) (m : Message) (o : Option Message) → (if r then Some m else None) ≡ o → r ≡ true → Some m ≡ o
+read_packet r m o e is_read = subst (λ (b : Bool). (if b then Some m else None) ≡ o) is_read e
+
+-- the packet at the cursor
+pub read_next : (r : Bool) (m : Message) (n : Posted) (at : ℕ) → (if r then Some m else None) ≡ slice_get n.packets at → at ≡ n.cursor → r ≡ true → Some m ≡ slice_get n.packets n.cursor
+read_next r m n at e cursor is_read = read_packet r m (slice_get n.packets at) e is_read ∙ ap (λ (k : ℕ). slice_get n.packets k) cursor
+
+pub none_at_zero : (w : World) (i : ℕ) → i ≡ 0 → None ≡ sent_at w i
+none_at_zero w i e = rw e refl
+
+pub sent_behind : (w : World) (i : ℕ) → 0 < i → slice_get w.net (i - 1) ≡ sent_at w i
+sent_behind w i above = cond_both (i == 0) None (slice_get w.net (i - 1)) (λ (o : Option Message). slice_get w.net (i - 1) ≡ o) (λ t. absurd (let e : i ≡ 0 = grind (arith, nat_tests) in omega arith)) (λ f. refl)
 
 pub sent_in : (w : World) (i : ℕ) (m : Message) → sent_at w i ≡ Some m → IsIn m w.net
 sent_in w i m = cond_both (i == 0) None (slice_get w.net (i - 1)) (λ (o : Option Message). o ≡ Some m → IsIn m w.net) (λ t e. absurd (none-some m e)) (λ f e. at_in w.net (i - 1) m e)

@@ -28,8 +28,11 @@ impl State {
         requires { IsBegun self.old }
         ensures { Ends self.old self.new result (delivered self.old (rule.sent_at (world_of self.old) number)) }
     {
+        if number == 0 {
+            return Outcome::NotAllowed(Bar::NoPacket);
+        }
         let mut packet = Packet::blank();
-        if number == 0 || !self.net.read(number - 1, room, &mut packet) {
+        if !self.net.read(number - 1, room, &mut packet) {
             return Outcome::NotAllowed(Bar::NoPacket);
         }
         self.deliver(&packet, acted)

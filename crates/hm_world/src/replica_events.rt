@@ -87,11 +87,9 @@ impl State {
         let first = self.net.len() + 1;
         match self.service.remove(number, &mut acted.outs) {
             Ok(()) => {
+                let count = acted.outs.len();
                 self.net.post_all(&acted.outs);
-                Outcome::Ok {
-                    first,
-                    count: acted.outs.len(),
-                }
+                Outcome::Ok { first, count }
             }
             Err(fault) => Outcome::NotAllowed(bar_of(fault)),
         }

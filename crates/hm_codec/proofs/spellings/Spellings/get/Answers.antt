@@ -10,8 +10,8 @@ use Rattle.hm_codec.specs.Spelled.{Spelled}
 use Rattle.hm_codec.proofs.Rows.{length-told, row_rises, row_within, cut_tells}
 use Rattle.hm_codec.proofs.spellings.Spellings.get.Goals as goal
 
-pub returns-then-place-len : goal.returns-then-place-len
-returns-then-place-len c =
+pub returns-then-place-len-clause-spelled : goal.returns-then-place-len-clause-spelled
+returns-then-place-len-clause-spelled c =
     let packets : List Message = told_from 0 c.self.inside.ends.items c.self.inside.bytes.items in
     let past : length packets ≤ c.args.place = omega (arith, length-told c.self.inside.ends.items c.self.inside.bytes.items 0) in
     sym (ap (option_map spelling) (slice_get_past packets c.args.place past)) ∙ ap (λ (s : Spelled). option_map spelling (slice_get s.packets c.args.place)) c.self.view_is
@@ -45,8 +45,8 @@ slice_bounds-result-start c = let h = rises c in let k = ends c in omega (arith,
 pub slice_bounds-result-end : goal.slice_bounds-result-end
 slice_bounds-result-end c = ends c
 
-pub returns : goal.returns
-returns c =
+pub returns-clause-spelled : goal.returns-clause-spelled
+returns-clause-spelled c =
     let es : List ℕ = c.self.inside.ends.items in
     let lt : c.args.place < length es = omega (arith, c.if-place-len.false, c.len.ensures) in
     let begins : c.begin_of-first.result ≡ get_or (0 ∷ es) c.args.place 0 = c.begin_of-first.ensures ∙ ap (λ (l : List ℕ). get_or (0 ∷ l) c.args.place 0) c.as_slice.ensures.value in
