@@ -1,0 +1,5 @@
+mod Votings
+mod Alike
+mod Entering
+mod Steps
+mod News

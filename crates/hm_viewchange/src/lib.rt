@@ -1,0 +1,8 @@
+//! How a group of Viewstamped Replication changes its view: who was heard to enter it, who voted, and the log that its primary
+//! takes (Liskov and Cowling, "Viewstamped Replication Revisited").
+#![tactic(auto)]
+
+pub mod packets;
+pub mod view_change;
+pub mod votes;
+pub mod vr_core;

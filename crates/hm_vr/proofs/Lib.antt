@@ -1,0 +1,4 @@
+mod Others
+mod Bounds
+mod Changes
+mod Standings

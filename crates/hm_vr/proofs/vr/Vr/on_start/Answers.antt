@@ -1,0 +1,24 @@
+use Rattle.std.proofs.Common.{ap, ◌∙◌}
+use Rattle.hm_rules.specs.ReplicaSteps.{Stepped}
+use Rattle.hm_rules.specs.ViewChange.{on_start}
+use Rattle.hm_rules.specs.Viewstamped.{led}
+use Rattle.hm_vr.proofs.Changes.{start_ends}
+use Rattle.hm_vr.proofs.Standings.{told}
+use Rattle.hm_vr.proofs.vr.Vr.on_start.Goals as goal
+
+pub invariant_of-self : goal.invariant_of-self
+invariant_of-self c =
+    (told c.self.inside c.on_start.new.core c.on_start.new.self c.on_start.new.acted c.begin_anew.new.sender c.begin_anew.new.follower c.args.self.now (λ r. on_start r c.args.from c.args.start.now) c.self.invariant c.self.view_is
+    c.on_start.ensures.step c.on_start.ensures.leaves (start_ends c.args.self.now c.args.from c.args.start.now) c.begin_anew.ensures.sender c.begin_anew.ensures.follower).kept
+
+pub lead_if_begun-requires : goal.lead_if_begun-requires
+lead_if_begun-requires c =
+    (told c.self.inside c.on_start.new.core c.on_start.new.self c.on_start.new.acted c.begin_anew.new.sender c.begin_anew.new.follower c.args.self.now (λ r. on_start r c.args.from c.args.start.now) c.self.invariant c.self.view_is
+    c.on_start.ensures.step c.on_start.ensures.leaves (start_ends c.args.self.now c.args.from c.args.start.now) c.begin_anew.ensures.sender c.begin_anew.ensures.follower).begins
+
+pub returns : goal.returns
+returns c =
+    c.lead_if_begun.ensures
+    ∙ ap (λ (s : Stepped). led s)
+    (told c.self.inside c.on_start.new.core c.on_start.new.self c.on_start.new.acted c.begin_anew.new.sender c.begin_anew.new.follower c.args.self.now (λ r. on_start r c.args.from c.args.start.now) c.self.invariant c.self.view_is
+    c.on_start.ensures.step c.on_start.ensures.leaves (start_ends c.args.self.now c.args.from c.args.start.now) c.begin_anew.ensures.sender c.begin_anew.ensures.follower).step
