@@ -89,7 +89,7 @@ later_ends notes view r l (inr a) = begun_ends _ (l.alone a)
 
 later_same : (notes : Replica → Replica) (view : ℕ) (r : Replica) (acked : List ℕ) → Leads notes view r → Grouped r
     → (let first : Stepped = rules.enters view r in let all : Stepped = rules.then_checks first notes in
-      kept_after all.did all.replica.status (kept_after first.did first.replica.status acked) ≡ kept_after all.did all.replica.status acked)
+    kept_after all.did all.replica.status (kept_after first.did first.replica.status acked) ≡ kept_after all.did all.replica.status acked)
 later_same notes view r acked l (inl some) =
     let first : Stepped = rules.enters view r in
     let all : Stepped = rules.then_checks first notes in
@@ -195,9 +195,9 @@ start_step old before new after acted from start fits now member is step =
     let r : Replica = stands old before in
     lifted old before new after acted (λ q. rules.on_start q from start)
     (λ acked fed.
-      started (dressed acked fed r) from start now member is
-      ∙ noted_alike (votes.with_heard from) start.view (votes.was_heard r from) r (start_leads r from start.view) (grouped old before fits) is acked fed
-      ∙ ap (dress acked fed) (sym (started r from start now member is)))
+    started (dressed acked fed r) from start now member is
+    ∙ noted_alike (votes.with_heard from) start.view (votes.was_heard r from) r (start_leads r from start.view) (grouped old before fits) is acked fed
+    ∙ ap (dress acked fed) (sym (started r from start now member is)))
     (step ∙ sym (started r from start now member is))
 
 pub start_leaves : (old : VrCore) (before : Changing) (new : VrCore) (after : Changing) (acted : Acted) (from : ℕ) (start : StartViewChange) → Fits old before → Stays old new after
@@ -221,9 +221,9 @@ vote_step old before new after acted from vote fits now lawful less is step =
     let r : Replica = stands old before in
     lifted old before new after acted (λ q. rules.on_vote q from vote)
     (λ acked fed.
-      voted (dressed acked fed r) from vote now lawful is
-      ∙ noted_alike (votes.with_vote from vote) vote.view (is_some (votes.vote_of r from)) r (vote_leads r from vote.view vote (only_number old before from less)) (grouped old before fits) is acked fed
-      ∙ ap (dress acked fed) (sym (voted r from vote now lawful is)))
+    voted (dressed acked fed r) from vote now lawful is
+    ∙ noted_alike (votes.with_vote from vote) vote.view (is_some (votes.vote_of r from)) r (vote_leads r from vote.view vote (only_number old before from less)) (grouped old before fits) is acked fed
+    ∙ ap (dress acked fed) (sym (voted r from vote now lawful is)))
     (step ∙ sym (voted r from vote now lawful is))
 
 pub vote_leaves : (old : VrCore) (before : Changing) (new : VrCore) (after : Changing) (acted : Acted) (from : ℕ) (vote : Vote) → Fits old before → Stays old new after → from < old.size

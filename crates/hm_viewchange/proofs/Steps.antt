@@ -27,8 +27,8 @@ sends_goes r outs few not_staging = record { done = refl; few = few; staging = n
 fetches_goes : (r : Replica) (chosen : ℕ) (vote : Vote) → Goes (rules.fetches chosen vote r)
 fetches_goes r chosen vote =
     elim (length (applied r) == vote.len) as (λ (b : Bool).
-      Goes (if b then sends (rules.begun_with (applied r) r) []
-       else sends (record r { status = Status.Pulling; staged = Some (applied r); choice = Some chosen }) (rules.pull_from (record r { status = Status.Pulling; staged = Some (applied r); choice = Some chosen }) chosen ∷ []))) [
+    Goes (if b then sends (rules.begun_with (applied r) r) []
+    else sends (record r { status = Status.Pulling; staged = Some (applied r); choice = Some chosen }) (rules.pull_from (record r { status = Status.Pulling; staged = Some (applied r); choice = Some chosen }) chosen ∷ []))) [
       | true ↦ record { done = refl; few = omega arith; staging = refl }
       | false ↦ record { done = refl; few = omega arith; staging = refl }
     ]

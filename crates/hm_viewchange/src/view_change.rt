@@ -14,7 +14,8 @@ ghost use Rattle.hm_viewchange.specs.Standing.{replica_of, status_of, IsStep, Fi
 ghost use Rattle.hm_rules.specs.Votes as votes;
 ghost use Rattle.hm_rules.specs.Replica.{Status};
 
-use crate::packets::{faults, group_size, own_vote, page_packet, primary_of, pull_packet, push_starts, vote_packet};
+use crate::group::{faults, group_size, primary_of};
+use crate::packets::{own_vote, page_packet, pull_packet, push_starts, vote_packet};
 use crate::votes::{Ballot, best, count_heard, count_votes, greatest_commit};
 use crate::vr_core::{MAX_REPLICAS, VrCore, VrStatus};
 use hm_base::entry::Entry;
@@ -79,7 +80,13 @@ impl ViewChange {
     }
 
     /// A replica of this number enters a view.
-    pub fn on_start(&mut self, core: &mut VrCore, from: u32, start: &StartViewChange, acted: &mut Acted)
+    pub fn on_start(
+        &mut self,
+        core: &mut VrCore,
+        from: u32,
+        start: &StartViewChange,
+        acted: &mut Acted,
+    )
         requires { Fits core.old self.old }
         ensures step { IsStep core.old self.old core.new self.new acted.new (λ r. rules.on_start r from start.now) }
         ensures leaves { Leaves core.old self.old core.new self.new acted.new }
@@ -372,7 +379,14 @@ impl ViewChange {
     }
 
     /// Takes a page of the chosen log into the staged list, where it is the next one.
-    fn take_page(&mut self, core: &mut VrCore, from: u32, page: &Page, chosen: &Ballot, acted: &mut Acted)
+    fn take_page(
+        &mut self,
+        core: &mut VrCore,
+        from: u32,
+        page: &Page,
+        chosen: &Ballot,
+        acted: &mut Acted,
+    )
         requires fits { Fits core.old self.old }
         requires pulling { core.old.status ≡ VrStatus.Pulling }
         requires voter { chosen.now.voter ≤ 6 }
