@@ -1,5 +1,5 @@
 -- No rule of a view change reads what was acknowledged, or what a backup stages.
-use Rattle.std.proofs.Common.{◌≡◌, ℕ, Bool, true, false, List, [], ◌∷◌, ◌++◌, Option, Some, None, refl, sym, ap, ◌∙◌}
+use Rattle.std.proofs.Common.{◌≡◌, ℕ, Bool, true, false, List, [], ◌∷◌, Option, Some, None, refl, sym, ap, ◌∙◌}
 use Rattle.std.specs.Prelude.{◌==◌, ◌&&◌, not, nat_lt, nat_le, if◌then◌else◌, length, is_some}
 use Rattle.std.proofs.lemmas.Bool.{false≢true}
 use Rattle.hm_base.specs.declared.entry.Entry.{Entry}

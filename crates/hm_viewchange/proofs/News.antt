@@ -1,10 +1,9 @@
 -- News of a view that isn't earlier than the own one: what follows is the rules' step, whatever was acknowledged, and what it leaves.
-use Rattle.std.proofs.Common.{◌≡◌, ◌⊎◌, ℕ, ◌+◌, ◌-◌, ◌/◌, ◌%◌, ◌<◌, ◌≤◌, Bool, true, false, List, [], ◌∷◌, ◌++◌, Option, Some, None, refl, sym, ap, subst, ◌∙◌, arith, inl, inr}
-use Rattle.std.specs.Prelude.{◌==◌, ◌&&◌, ◌||◌, not, nat_lt, nat_le, if◌then◌else◌, length, is_some}
-use Rattle.std.proofs.lemmas.Bool.{cases_Bool, cases_lt, false≢true, le-ltb, lt-ltb}
+use Rattle.std.proofs.Common.{◌≡◌, ◌⊎◌, ℕ, ◌%◌, ◌<◌, ◌≤◌, Bool, true, false, List, [], Option, Some, None, refl, sym, ap, subst, ◌∙◌, arith, inl, inr}
+use Rattle.std.specs.Prelude.{not, nat_lt, if◌then◌else◌, length, is_some}
+use Rattle.std.proofs.lemmas.Bool.{cases_Bool, cases_lt, false≢true}
 use Rattle.std.proofs.lemmas.Option.{none-some}
 use Rattle.hm_base.specs.declared.entry.Entry.{Entry}
-use Rattle.hm_base.specs.declared.why.Why.{Why}
 use Rattle.hm_base.specs.declared.why.Why.TheVariants as why
 use Rattle.hm_codec.specs.declared.acted.Acted.{Acted}
 use Rattle.hm_packet.specs.declared.acted.Did.{Did}
@@ -14,13 +13,12 @@ use Rattle.hm_packet.specs.declared.body.Vote.{Vote}
 use Rattle.hm_replica.specs.Steps.{step_of}
 use Rattle.hm_rules.specs.Numbers.{numbers_from}
 use Rattle.hm_rules.specs.Replica.{Replica, Status}
-use Rattle.hm_rules.specs.ReplicaSteps.{Stepped, sends, sends_first, ignored}
+use Rattle.hm_rules.specs.ReplicaSteps.{Stepped, sends, ignored}
 use Rattle.hm_rules.specs.Votes as votes
 use Rattle.hm_rules.specs.ViewChange as rules
 use Rattle.hm_viewchange.specs.declared.vr_core.VrCore.{VrCore}
-use Rattle.hm_viewchange.specs.declared.vr_core.VrStatus.TheVariants as status
 use Rattle.hm_viewchange.specs.Changing.{Changing}
-use Rattle.hm_viewchange.specs.Parts.{stands, stale, noted, enters_later}
+use Rattle.hm_viewchange.specs.Parts.{stands, stale, noted}
 use Rattle.hm_viewchange.specs.Standing.{status_of, Fits, Stays, Leaves, IsStep}
 use Rattle.hm_viewchange.proofs.Votings.{length_numbers}
 use Rattle.hm_viewchange.proofs.Alike.{dressed, dress, kept_after, lifted, IsNote, equal_alike, later_alike}

@@ -6,7 +6,7 @@ ghost use Rattle.hm_viewchange.specs.Parts.{bare};
 use crate::vr_core::VrCore;
 
 /// How many replicas the group has.
-pub fn group_size(core: &VrCore) -> u8
+pub(crate) fn group_size(core: &VrCore) -> u8
     ensures members { result ≡ length (numbers_from 0 core.now.size) }
     ensures size { result ≡ core.now.size }
 {
@@ -14,7 +14,7 @@ pub fn group_size(core: &VrCore) -> u8
 }
 
 /// How many replicas of the group may stop.
-pub fn faults(core: &VrCore) -> u8
+pub(crate) fn faults(core: &VrCore) -> u8
     requires { core.now.me < core.now.size }
     ensures { result ≡ votes.faults (bare core.now) }
 {
@@ -22,7 +22,7 @@ pub fn faults(core: &VrCore) -> u8
 }
 
 /// The primary of a view.
-pub fn primary_of(core: &VrCore, view: u32) -> u8
+pub(crate) fn primary_of(core: &VrCore, view: u32) -> u8
     requires { core.now.me < core.now.size }
     ensures value { result ≡ votes.primary_of (bare core.now) view }
     ensures within { result < core.now.size }

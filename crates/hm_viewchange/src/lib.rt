@@ -2,7 +2,7 @@
 //! takes (Liskov and Cowling, "Viewstamped Replication Revisited").
 #![tactic(auto)]
 
-pub mod group;
+mod group;
 mod packets;
 pub mod view_change;
 pub mod votes;
