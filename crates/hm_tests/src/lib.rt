@@ -38,4 +38,6 @@ mod show;
 #[cfg(test)]
 mod switch;
 #[cfg(test)]
+mod view_change;
+#[cfg(test)]
 mod world;

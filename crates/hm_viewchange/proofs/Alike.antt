@@ -1,5 +1,5 @@
 -- No rule of a view change reads what was acknowledged, or what a backup stages.
-use Rattle.std.proofs.Common.{◌≡◌, ℕ, Bool, true, false, List, [], ◌∷◌, ◌++◌, Option, Some, None, refl, sym, ap, ◌∙◌}
+use Rattle.std.proofs.Common.{◌≡◌, ℕ, Bool, true, false, List, [], ◌∷◌, Option, Some, None, refl, sym, ap, ◌∙◌}
 use Rattle.std.specs.Prelude.{◌==◌, ◌&&◌, not, nat_lt, nat_le, if◌then◌else◌, length, is_some}
 use Rattle.std.proofs.lemmas.Bool.{false≢true}
 use Rattle.hm_base.specs.declared.entry.Entry.{Entry}
@@ -80,10 +80,10 @@ sends_alike acked fed r outs stays = ap (λ (a : List ℕ). sends (dressed a fed
 fetches_alike : (acked : List ℕ) (fed : Option (List Entry)) (r : Replica) (chosen : ℕ) (vote : Vote) → rules.fetches chosen vote (dressed acked fed r) ≡ dress acked fed (rules.fetches chosen vote r)
 fetches_alike acked fed r chosen vote =
     elim (length (applied r) == vote.len) as (λ (b : Bool).
-      (if b then sends (rules.begun_with (applied r) (dressed acked fed r)) []
-       else sends (record (dressed acked fed r) { status = Status.Pulling; staged = Some (applied r); choice = Some chosen }) (rules.pull_from (record (dressed acked fed r) { status = Status.Pulling; staged = Some (applied r); choice = Some chosen }) chosen ∷ []))
-      ≡ dress acked fed (if b then sends (rules.begun_with (applied r) r) []
-       else sends (record r { status = Status.Pulling; staged = Some (applied r); choice = Some chosen }) (rules.pull_from (record r { status = Status.Pulling; staged = Some (applied r); choice = Some chosen }) chosen ∷ []))) [
+    (if b then sends (rules.begun_with (applied r) (dressed acked fed r)) []
+    else sends (record (dressed acked fed r) { status = Status.Pulling; staged = Some (applied r); choice = Some chosen }) (rules.pull_from (record (dressed acked fed r) { status = Status.Pulling; staged = Some (applied r); choice = Some chosen }) chosen ∷ []))
+    ≡ dress acked fed (if b then sends (rules.begun_with (applied r) r) []
+    else sends (record r { status = Status.Pulling; staged = Some (applied r); choice = Some chosen }) (rules.pull_from (record r { status = Status.Pulling; staged = Some (applied r); choice = Some chosen }) chosen ∷ []))) [
       | true ↦ refl
       | false ↦ refl
     ]
@@ -146,7 +146,7 @@ equal_alike notes note acked fed r change =
 
 pub later_alike : (notes : Replica → Replica) → IsNote notes → (acked : List ℕ) (fed : Option (List Entry)) (r : Replica) (view : ℕ) → (rules.enters view r).did ≡ did.Done
     → (let first : Stepped = rules.enters view r in let all : Stepped = rules.then_checks first notes in
-      kept_after all.did all.replica.status (kept_after first.did first.replica.status acked) ≡ kept_after all.did all.replica.status acked)
+    kept_after all.did all.replica.status (kept_after first.did first.replica.status acked) ≡ kept_after all.did all.replica.status acked)
     → rules.then_checks (rules.enters view (dressed acked fed r)) notes ≡ dress acked fed (rules.then_checks (rules.enters view r) notes)
 later_alike notes note acked fed r view done same =
     let first : Stepped = rules.enters view r in
@@ -154,8 +154,8 @@ later_alike notes note acked fed r view done same =
     let between : List ℕ = kept_after first.did now acked in
     let second : Stepped = rules.checks (notes first.replica) in
     let rests : Rests (notes first.replica).status between =
-      ap (λ (s : Status). kept_after did.Done s between) (note.status first.replica)
-      ∙ ap (λ (d : Did). kept_after did.Done now (kept_after d now acked)) done ∙ kept_twice now acked ∙ ap (λ (d : Did). kept_after d now acked) (sym done) in
+    ap (λ (s : Status). kept_after did.Done s between) (note.status first.replica)
+    ∙ ap (λ (d : Did). kept_after did.Done now (kept_after d now acked)) done ∙ kept_twice now acked ∙ ap (λ (d : Did). kept_after d now acked) (sym done) in
     ap (λ (s : Stepped). rules.then_checks s notes) (enters_alike acked fed r view)
     ∙ ap (sends_first first.outs) (ap rules.checks (note.alike between fed first.replica) ∙ checks_alike between fed (notes first.replica) rests)
     ∙ ap (λ (a : List ℕ). sends_first first.outs (record second { replica = dressed a fed second.replica })) same

@@ -141,14 +141,18 @@ IsBegun s = (q : Replica) × (s ≡ sends (rules.begun q) [])
 pub alone_start : (r : Replica) (view from : ℕ) → Alone r → IsBegun (rules.then_checks (rules.enters view r) (votes.with_heard from))
 alone_start r view from a =
     let e : Replica = rules.entered view r in
-    let q : Replica = votes.with_heard from (rules.begun (votes.with_vote r.me (votes.own_vote e) e)) in
-    (q, ap (λ (s : Stepped). rules.then_checks s (votes.with_heard from)) (alone_first r view a)
-      ∙ ap (sends_first []) (alone_again q (votes.own_vote e) (record { members = a.members; me = a.me }) (ap (λ (k : ℕ). slice_set no_votes k (Some (votes.own_vote e))) a.me)))
+    let q : Replica = votes.with_heard from (rules.begun (votes.with_vote r.me (votes.own_vote e) e)) in (
+      q,
+      ap (λ (s : Stepped). rules.then_checks s (votes.with_heard from)) (alone_first r view a)
+          ∙ ap (sends_first []) (alone_again q (votes.own_vote e) (record { members = a.members; me = a.me }) (ap (λ (k : ℕ). slice_set no_votes k (Some (votes.own_vote e))) a.me)),
+    )
 
 pub alone_vote : (r : Replica) (view from : ℕ) (vote : Vote) → Alone r → from ≡ 0 → IsBegun (rules.then_checks (rules.enters view r) (votes.with_vote from vote))
 alone_vote r view from vote a first =
     let e : Replica = rules.entered view r in
-    let q : Replica = votes.with_vote from vote (rules.begun (votes.with_vote r.me (votes.own_vote e) e)) in
-    (q, ap (λ (s : Stepped). rules.then_checks s (votes.with_vote from vote)) (alone_first r view a)
-      ∙ ap (sends_first []) (alone_again q vote (record { members = a.members; me = a.me })
-        (ap (λ (k : ℕ). slice_set (slice_set no_votes k (Some (votes.own_vote e))) from (Some vote)) a.me ∙ ap (λ (k : ℕ). slice_set (slice_set no_votes 0 (Some (votes.own_vote e))) k (Some vote)) first)))
+    let q : Replica = votes.with_vote from vote (rules.begun (votes.with_vote r.me (votes.own_vote e) e)) in (
+      q,
+      ap (λ (s : Stepped). rules.then_checks s (votes.with_vote from vote)) (alone_first r view a)
+          ∙ ap (sends_first []) (alone_again q vote (record { members = a.members; me = a.me })
+          (ap (λ (k : ℕ). slice_set (slice_set no_votes k (Some (votes.own_vote e))) from (Some vote)) a.me ∙ ap (λ (k : ℕ). slice_set (slice_set no_votes 0 (Some (votes.own_vote e))) k (Some vote)) first)),
+    )

@@ -1,10 +1,9 @@
 -- News of a view that isn't earlier than the own one: what follows is the rules' step, whatever was acknowledged, and what it leaves.
-use Rattle.std.proofs.Common.{◌≡◌, ◌⊎◌, ℕ, ◌+◌, ◌-◌, ◌/◌, ◌%◌, ◌<◌, ◌≤◌, Bool, true, false, List, [], ◌∷◌, ◌++◌, Option, Some, None, refl, sym, ap, subst, ◌∙◌, arith, inl, inr}
-use Rattle.std.specs.Prelude.{◌==◌, ◌&&◌, ◌||◌, not, nat_lt, nat_le, if◌then◌else◌, length, is_some}
-use Rattle.std.proofs.lemmas.Bool.{cases_Bool, cases_lt, false≢true, le-ltb, lt-ltb}
+use Rattle.std.proofs.Common.{◌≡◌, ◌⊎◌, ℕ, ◌%◌, ◌<◌, ◌≤◌, Bool, true, false, List, [], Option, Some, None, refl, sym, ap, subst, ◌∙◌, arith, inl, inr}
+use Rattle.std.specs.Prelude.{not, nat_lt, if◌then◌else◌, length, is_some}
+use Rattle.std.proofs.lemmas.Bool.{cases_Bool, cases_lt, false≢true}
 use Rattle.std.proofs.lemmas.Option.{none-some}
 use Rattle.hm_base.specs.declared.entry.Entry.{Entry}
-use Rattle.hm_base.specs.declared.why.Why.{Why}
 use Rattle.hm_base.specs.declared.why.Why.TheVariants as why
 use Rattle.hm_codec.specs.declared.acted.Acted.{Acted}
 use Rattle.hm_packet.specs.declared.acted.Did.{Did}
@@ -14,13 +13,12 @@ use Rattle.hm_packet.specs.declared.body.Vote.{Vote}
 use Rattle.hm_replica.specs.Steps.{step_of}
 use Rattle.hm_rules.specs.Numbers.{numbers_from}
 use Rattle.hm_rules.specs.Replica.{Replica, Status}
-use Rattle.hm_rules.specs.ReplicaSteps.{Stepped, sends, sends_first, ignored}
+use Rattle.hm_rules.specs.ReplicaSteps.{Stepped, sends, ignored}
 use Rattle.hm_rules.specs.Votes as votes
 use Rattle.hm_rules.specs.ViewChange as rules
 use Rattle.hm_viewchange.specs.declared.vr_core.VrCore.{VrCore}
-use Rattle.hm_viewchange.specs.declared.vr_core.VrStatus.TheVariants as status
 use Rattle.hm_viewchange.specs.Changing.{Changing}
-use Rattle.hm_viewchange.specs.Parts.{stands, stale, noted, enters_later}
+use Rattle.hm_viewchange.specs.Parts.{stands, stale, noted}
 use Rattle.hm_viewchange.specs.Standing.{status_of, Fits, Stays, Leaves, IsStep}
 use Rattle.hm_viewchange.proofs.Votings.{length_numbers}
 use Rattle.hm_viewchange.proofs.Alike.{dressed, dress, kept_after, lifted, IsNote, equal_alike, later_alike}
@@ -89,7 +87,7 @@ later_ends notes view r l (inr a) = begun_ends _ (l.alone a)
 
 later_same : (notes : Replica → Replica) (view : ℕ) (r : Replica) (acked : List ℕ) → Leads notes view r → Grouped r
     → (let first : Stepped = rules.enters view r in let all : Stepped = rules.then_checks first notes in
-      kept_after all.did all.replica.status (kept_after first.did first.replica.status acked) ≡ kept_after all.did all.replica.status acked)
+    kept_after all.did all.replica.status (kept_after first.did first.replica.status acked) ≡ kept_after all.did all.replica.status acked)
 later_same notes view r acked l (inl some) =
     let first : Stepped = rules.enters view r in
     let all : Stepped = rules.then_checks first notes in
@@ -195,9 +193,9 @@ start_step old before new after acted from start fits now member is step =
     let r : Replica = stands old before in
     lifted old before new after acted (λ q. rules.on_start q from start)
     (λ acked fed.
-      started (dressed acked fed r) from start now member is
-      ∙ noted_alike (votes.with_heard from) start.view (votes.was_heard r from) r (start_leads r from start.view) (grouped old before fits) is acked fed
-      ∙ ap (dress acked fed) (sym (started r from start now member is)))
+    started (dressed acked fed r) from start now member is
+    ∙ noted_alike (votes.with_heard from) start.view (votes.was_heard r from) r (start_leads r from start.view) (grouped old before fits) is acked fed
+    ∙ ap (dress acked fed) (sym (started r from start now member is)))
     (step ∙ sym (started r from start now member is))
 
 pub start_leaves : (old : VrCore) (before : Changing) (new : VrCore) (after : Changing) (acted : Acted) (from : ℕ) (start : StartViewChange) → Fits old before → Stays old new after
@@ -221,9 +219,9 @@ vote_step old before new after acted from vote fits now lawful less is step =
     let r : Replica = stands old before in
     lifted old before new after acted (λ q. rules.on_vote q from vote)
     (λ acked fed.
-      voted (dressed acked fed r) from vote now lawful is
-      ∙ noted_alike (votes.with_vote from vote) vote.view (is_some (votes.vote_of r from)) r (vote_leads r from vote.view vote (only_number old before from less)) (grouped old before fits) is acked fed
-      ∙ ap (dress acked fed) (sym (voted r from vote now lawful is)))
+    voted (dressed acked fed r) from vote now lawful is
+    ∙ noted_alike (votes.with_vote from vote) vote.view (is_some (votes.vote_of r from)) r (vote_leads r from vote.view vote (only_number old before from less)) (grouped old before fits) is acked fed
+    ∙ ap (dress acked fed) (sym (voted r from vote now lawful is)))
     (step ∙ sym (voted r from vote now lawful is))
 
 pub vote_leaves : (old : VrCore) (before : Changing) (new : VrCore) (after : Changing) (acted : Acted) (from : ℕ) (vote : Vote) → Fits old before → Stays old new after → from < old.size

@@ -1,12 +1,12 @@
 -- What a step of the view change that sends leaves: it is done, no backup's staging goes on, and where the view has begun it has sent
 -- at most one packet.
-use Rattle.std.proofs.Common.{◌≡◌, ℕ, ◌≤◌, Bool, true, false, List, [], ◌∷◌, ◌++◌, Option, Some, None, refl, sym, ap, ◌∙◌, arith}
+use Rattle.std.proofs.Common.{◌≡◌, ℕ, ◌≤◌, Bool, true, false, List, [], ◌∷◌, Option, Some, None, refl, arith}
 use Rattle.std.specs.Prelude.{◌==◌, ◌&&◌, not, nat_lt, nat_le, if◌then◌else◌, length, is_some}
 use Rattle.hm_packet.specs.declared.acted.Did.TheVariants as did
 use Rattle.hm_packet.specs.declared.body.Vote.{Vote}
 use Rattle.hm_packet.specs.Messages.{Message}
 use Rattle.hm_rules.specs.Replica.{Replica, Status, applied}
-use Rattle.hm_rules.specs.ReplicaSteps.{Stepped, sends, sends_first}
+use Rattle.hm_rules.specs.ReplicaSteps.{Stepped, sends}
 use Rattle.hm_rules.specs.Votes as votes
 use Rattle.hm_rules.specs.ViewChange as rules
 
@@ -27,8 +27,8 @@ sends_goes r outs few not_staging = record { done = refl; few = few; staging = n
 fetches_goes : (r : Replica) (chosen : ℕ) (vote : Vote) → Goes (rules.fetches chosen vote r)
 fetches_goes r chosen vote =
     elim (length (applied r) == vote.len) as (λ (b : Bool).
-      Goes (if b then sends (rules.begun_with (applied r) r) []
-       else sends (record r { status = Status.Pulling; staged = Some (applied r); choice = Some chosen }) (rules.pull_from (record r { status = Status.Pulling; staged = Some (applied r); choice = Some chosen }) chosen ∷ []))) [
+    Goes (if b then sends (rules.begun_with (applied r) r) []
+    else sends (record r { status = Status.Pulling; staged = Some (applied r); choice = Some chosen }) (rules.pull_from (record r { status = Status.Pulling; staged = Some (applied r); choice = Some chosen }) chosen ∷ []))) [
       | true ↦ record { done = refl; few = omega arith; staging = refl }
       | false ↦ record { done = refl; few = omega arith; staging = refl }
     ]

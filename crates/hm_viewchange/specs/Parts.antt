@@ -1,6 +1,5 @@
 -- Parts of the rows, as the code is divided.
-use Rattle.std.specs.Prelude.{ℕ, ◌+◌, Bool, ◌==◌, not, nat_lt, nat_le, if◌then◌else◌, List, [], ◌∷◌, slice_get, Option, Some, None}
-use Rattle.hm_base.specs.declared.entry.Entry.{Entry}
+use Rattle.std.specs.Prelude.{ℕ, Bool, not, nat_lt, if◌then◌else◌, List, [], slice_get, Option, Some, None}
 use Rattle.hm_base.specs.declared.why.Why.{Why}
 use Rattle.hm_base.specs.declared.why.Why.TheVariants as why
 use Rattle.hm_packet.specs.declared.body.Pull.{Pull}
@@ -11,8 +10,6 @@ use Rattle.hm_rules.specs.ReplicaSteps.{Stepped, sends}
 use Rattle.hm_rules.specs.Votes as votes
 use Rattle.hm_rules.specs.ViewChange.{enters, then_checks, with_voter, on_pull}
 use Rattle.hm_viewchange.specs.declared.vr_core.VrCore.{VrCore}
-use Rattle.hm_viewchange.specs.declared.vr_core.VrStatus.{VrStatus}
-use Rattle.hm_viewchange.specs.declared.vr_core.VrStatus.TheVariants as status
 use Rattle.hm_viewchange.specs.Changing.{Changing, idle}
 use Rattle.hm_viewchange.specs.Standing.{replica_of}
 

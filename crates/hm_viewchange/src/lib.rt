@@ -2,7 +2,8 @@
 //! takes (Liskov and Cowling, "Viewstamped Replication Revisited").
 #![tactic(auto)]
 
-pub mod packets;
+mod group;
+mod packets;
 pub mod view_change;
 pub mod votes;
 pub mod vr_core;

@@ -2,11 +2,11 @@ ghost use Rattle.std.specs.Prelude.{◌≡◌, ◌<◌, ◌≤◌, ◌+◌, ◌+
 ghost use Rattle.hm_base.specs.declared.node.Node.TheVariants as node;
 ghost use Rattle.hm_base.specs.Logs.{page};
 ghost use Rattle.hm_packet.specs.declared.body.Body.TheVariants as body;
-ghost use Rattle.hm_rules.specs.Numbers.{numbers_from};
 ghost use Rattle.hm_rules.specs.Votes as votes;
 ghost use Rattle.hm_rules.specs.ViewChange as rules;
 ghost use Rattle.hm_viewchange.specs.Parts.{bare};
 
+use crate::group::primary_of;
 use crate::vr_core::VrCore;
 use hm_base::node::Node;
 use hm_codec::outs::Outs;
@@ -14,31 +14,6 @@ use hm_packet::body::{Body, Page, Pull, StartViewChange, Vote};
 use hm_packet::packet::Packet;
 use hm_replica::acts::push;
 use hm_replica::packets::packet_from;
-
-/// How many replicas the group has.
-pub(crate) fn group_size(core: &VrCore) -> u8
-    ensures members { result ≡ length (numbers_from 0 core.now.size) }
-    ensures size { result ≡ core.now.size }
-{
-    core.size
-}
-
-/// How many replicas of the group may stop.
-pub fn faults(core: &VrCore) -> u8
-    requires { core.now.me < core.now.size }
-    ensures { result ≡ votes.faults (bare core.now) }
-{
-    (group_size(core) - 1) / 2
-}
-
-/// The primary of a view.
-pub fn primary_of(core: &VrCore, view: u32) -> u8
-    requires { core.now.me < core.now.size }
-    ensures value { result ≡ votes.primary_of (bare core.now) view }
-    ensures within { result < core.now.size }
-{
-    (view % u32::from(group_size(core))) as u8
-}
 
 /// What this replica votes.
 pub(crate) fn own_vote(core: &VrCore) -> Vote

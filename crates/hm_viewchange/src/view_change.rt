@@ -1,20 +1,21 @@
-ghost use Rattle.std.specs.Prelude.{◌≡◌, ◌<◌, ◌≤◌, ◌+◌, ◌-◌, ◌%◌, ◌++◌, ◌∷◌, ◌==◌, [], true, false, length, drop, IfOk, IfSome, Some, Option, List, ℕ, nat_lt, nat_le, not, ◌&&◌, is_some, count_by, slice_get, slice_set};
+ghost use Rattle.std.specs.Prelude.{◌≡◌, ◌<◌, ◌≤◌, ◌+◌, ◌++◌, ◌&&◌, false, not, nat_lt, nat_le, length, drop, count_by, slice_get, slice_set, is_some, IfOk, IfSome, Some, Option, List, ℕ};
 ghost use Rattle.hm_base.specs.Lists.{IsPrefix};
 ghost use Rattle.hm_packet.specs.Steps.{max_outs};
 ghost use Rattle.hm_replica.specs.Steps.{step_of, sends_act};
+ghost use Rattle.hm_rules.specs.Replica.{Status};
 ghost use Rattle.hm_rules.specs.ReplicaSteps as steps;
 ghost use Rattle.hm_rules.specs.ViewChange as rules;
+ghost use Rattle.hm_rules.specs.Votes as votes;
 ghost use Rattle.hm_shim.specs.State.{applied_entries};
 ghost use Rattle.hm_store.specs.Log.{max_log_len};
-ghost use Rattle.hm_viewchange.specs.Changing.{idle};
 ghost use Rattle.hm_viewchange.specs.Ballots.{ballot_of, ballot_in};
+ghost use Rattle.hm_viewchange.specs.Changing.{idle};
 ghost use Rattle.hm_viewchange.specs.Parts as parts;
 ghost use Rattle.hm_viewchange.specs.Parts.{bare, stands};
 ghost use Rattle.hm_viewchange.specs.Standing.{replica_of, status_of, IsStep, Fits, Stays, Leaves};
-ghost use Rattle.hm_rules.specs.Votes as votes;
-ghost use Rattle.hm_rules.specs.Replica.{Status};
 
-use crate::packets::{faults, group_size, own_vote, page_packet, primary_of, pull_packet, push_starts, vote_packet};
+use crate::group::{faults, group_size, primary_of};
+use crate::packets::{own_vote, page_packet, pull_packet, push_starts, vote_packet};
 use crate::votes::{Ballot, best, count_heard, count_votes, greatest_commit};
 use crate::vr_core::{MAX_REPLICAS, VrCore, VrStatus};
 use hm_base::entry::Entry;
@@ -51,7 +52,7 @@ impl Model for ViewChange {
 }
 
 impl ViewChange {
-    /// Nobody heard, no votes, and room for a staged list of `cap` entries.
+    /// Nobody heard, no votes, and room for a staged list of `cap` entries. All memory is taken here.
     pub fn open(alloc: Global, cap: u32) -> Result<ViewChange, NoMemory>
         requires { cap ≤ max_log_len }
         ensures { IfOk result (λ v. v ≡ idle cap) }
@@ -78,8 +79,14 @@ impl ViewChange {
         self.enter(core, next, &mut acted.outs);
     }
 
-    /// A replica of this number enters a view.
-    pub fn on_start(&mut self, core: &mut VrCore, from: u32, start: &StartViewChange, acted: &mut Acted)
+    /// A replica of this number enters a view: a later view is entered here too, and after f others were heard a replica votes.
+    pub fn on_start(
+        &mut self,
+        core: &mut VrCore,
+        from: u32,
+        start: &StartViewChange,
+        acted: &mut Acted,
+    )
         requires { Fits core.old self.old }
         ensures step { IsStep core.old self.old core.new self.new acted.new (λ r. rules.on_start r from start.now) }
         ensures leaves { Leaves core.old self.old core.new self.new acted.new }
@@ -97,7 +104,8 @@ impl ViewChange {
         }
     }
 
-    /// A vote of the replica of this number, for this one as the primary of a view.
+    /// A vote of the replica of this number, for this one as the primary of a view: with f + 1 votes it takes the log with the greatest
+    /// last normal view and, among those, the greatest length.
     pub fn on_vote(&mut self, core: &mut VrCore, from: u32, vote: &Vote, acted: &mut Acted)
         requires { Fits core.old self.old }
         ensures step { IsStep core.old self.old core.new self.new acted.new (λ r. rules.on_vote r from vote.now) }
@@ -125,7 +133,8 @@ impl ViewChange {
         send_page(core, from, pull, acted)
     }
 
-    /// A page of the chosen log, from the replica of this number.
+    /// A page of the chosen log, from the replica of this number. The view begins once the whole log is there, else the next page is
+    /// pulled.
     pub fn on_page(&mut self, core: &mut VrCore, from: u32, page: &Page, acted: &mut Acted)
         requires { Fits core.old self.old }
         ensures step { IsStep core.old self.old core.new self.new acted.new (λ r. rules.on_page r from page.now) }
@@ -372,7 +381,14 @@ impl ViewChange {
     }
 
     /// Takes a page of the chosen log into the staged list, where it is the next one.
-    fn take_page(&mut self, core: &mut VrCore, from: u32, page: &Page, chosen: &Ballot, acted: &mut Acted)
+    fn take_page(
+        &mut self,
+        core: &mut VrCore,
+        from: u32,
+        page: &Page,
+        chosen: &Ballot,
+        acted: &mut Acted,
+    )
         requires fits { Fits core.old self.old }
         requires pulling { core.old.status ≡ VrStatus.Pulling }
         requires voter { chosen.now.voter ≤ 6 }

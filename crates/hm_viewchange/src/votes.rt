@@ -1,5 +1,4 @@
-ghost use Rattle.std.specs.Prelude.{◌≡◌, ◌<◌, ◌≤◌, ◌⊎◌, length, fold, max, count_by, slice_get, Some, IfSome};
-ghost use Rattle.hm_packet.specs.declared.body.Vote.{Vote};
+ghost use Rattle.std.specs.Prelude.{◌≡◌, ◌<◌, ◌⊎◌, length, fold, max, count_by, slice_get, Some, IfSome};
 ghost use Rattle.hm_rules.specs.Votes as rules;
 ghost use Rattle.hm_viewchange.specs.Ballots.{ballot_of, ballot_in, ballot_at, commit_in};
 

@@ -16,16 +16,18 @@ pub enum VrStatus {
     Staging,
 }
 
-/// What a replica of Viewstamped Replication is, whether its view has begun or is being changed: its log, its number, the size of
-/// its group, its view, the last view in which its status was Normal, how long the log was with which its view began, and its
-/// status. How much is known to be committed is the log's applied length.
+/// What a replica of Viewstamped Replication is, whether its view has begun or is being changed. How much is known to be committed is
+/// the applied length of its log. The primary of a view is the replica whose number is the view modulo the group's size.
 #[derive(Drop)]
 pub struct VrCore {
     pub shim: Shim,
     pub me: u8,
+    /// How many replicas the group has, which never changes: an odd number, so that f of 2f + 1 may stop.
     pub size: u8,
     pub view: u32,
+    /// The last view in which the status was Normal.
     pub normal: u32,
+    /// How long the log was with which the view began.
     pub start: u32,
     pub status: VrStatus,
 }

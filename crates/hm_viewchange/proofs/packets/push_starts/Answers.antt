@@ -18,15 +18,15 @@ loop-other-preserved c =
     let i : ℕ = c.loop-other.other in
     elim c.if-other-core.branch [
       | then-other-core w ↦ record {
-          outs = w.outs-is ∙ w.push.ensures ∙ ap (λ (l : List Message). l ++ w.start_packet.result ∷ []) c.loop-other.invariant.outs
+        outs = w.outs-is ∙ w.push.ensures ∙ ap (λ (l : List Message). l ++ w.start_packet.result ∷ []) c.loop-other.invariant.outs
             ∙ ap (λ (m : Message). (outs ++ map start (filter (λ m. not (m == me)) (numbers_from 0 i))) ++ m ∷ []) w.start_packet.ensures
             ∙ to_another start me i outs (ne_eqb i me w.if-other-core.true);
-          few = omega (arith, ap (λ (l : List Message). length l) (w.outs-is ∙ w.push.ensures), length-append c.loop-other.outs (w.start_packet.result ∷ []), c.loop-other.invariant.few);
-          end = omega (arith, c.loop-other-test.true);
-        }
+        few = omega (arith, ap (λ (l : List Message). length l) (w.outs-is ∙ w.push.ensures), length-append c.loop-other.outs (w.start_packet.result ∷ []), c.loop-other.invariant.few);
+        end = omega (arith, c.loop-other-test.true);
+      }
       | else-other-core w ↦ record {
-          outs = w.outs-is ∙ c.loop-other.invariant.outs ∙ ap (λ (l : List Message). outs ++ l) (to_itself start me i (eq-eqb i me w.if-other-core.false));
-          few = omega (arith, ap (λ (l : List Message). length l) w.outs-is, c.loop-other.invariant.few);
-          end = omega (arith, c.loop-other-test.true);
-        }
+        outs = w.outs-is ∙ c.loop-other.invariant.outs ∙ ap (λ (l : List Message). outs ++ l) (to_itself start me i (eq-eqb i me w.if-other-core.false));
+        few = omega (arith, ap (λ (l : List Message). length l) w.outs-is, c.loop-other.invariant.few);
+        end = omega (arith, c.loop-other-test.true);
+      }
     ]

@@ -9,11 +9,11 @@ loop-vote-preserved c =
     let i : ℕ = c.loop-vote.vote-index in
     elim c.if-is_some.branch [
       | then-is_some w ↦ record {
-          count = w.count-is ∙ ap (λ (n : ℕ). n + 1) c.loop-vote.invariant.count ∙ sym (count_more_yes votes i (omega (arith, c.loop-vote-test.true, c.told-votes)) (sym c.is_some.ensures ∙ w.if-is_some.true));
-          few = omega (arith, w.count-is, c.loop-vote.invariant.few);
-        }
+        count = w.count-is ∙ ap (λ (n : ℕ). n + 1) c.loop-vote.invariant.count ∙ sym (count_more_yes votes i (omega (arith, c.loop-vote-test.true, c.told-votes)) (sym c.is_some.ensures ∙ w.if-is_some.true));
+        few = omega (arith, w.count-is, c.loop-vote.invariant.few);
+      }
       | else-is_some w ↦ record {
-          count = w.count-is ∙ c.loop-vote.invariant.count ∙ sym (count_more_no votes i (omega (arith, c.loop-vote-test.true, c.told-votes)) (sym c.is_some.ensures ∙ w.if-is_some.false));
-          few = omega (arith, w.count-is, c.loop-vote.invariant.few);
-        }
+        count = w.count-is ∙ c.loop-vote.invariant.count ∙ sym (count_more_no votes i (omega (arith, c.loop-vote-test.true, c.told-votes)) (sym c.is_some.ensures ∙ w.if-is_some.false));
+        few = omega (arith, w.count-is, c.loop-vote.invariant.few);
+      }
     ]

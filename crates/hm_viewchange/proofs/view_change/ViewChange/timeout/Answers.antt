@@ -14,5 +14,5 @@ returns-clause-leaves c =
     let before = c.args.self.now in
     let r : Replica = stands c.enter.new.core c.enter.new.self in
     let step = ap (λ (a : Acted). step_of r (record { outs = c.enter.new.outs; declared = a.declared; did = a.did })) c.send_none.ensures
-      ∙ c.enter.ensures.sent ∙ ap (λ (a : Acted). sends_first a.outs (rules.enters (old.view + 1) (stands old before))) c.send_none.ensures in
+    ∙ c.enter.ensures.sent ∙ ap (λ (a : Acted). sends_first a.outs (rules.enters (old.view + 1) (stands old before))) c.send_none.ensures in
     leaves_of old before c.enter.new.core c.enter.new.self _ (rules.enters (old.view + 1) (stands old before)) c.enter.ensures.stays step (enters_ends (stands old before) (old.view + 1) (grouped old before c.requires))
