@@ -100,7 +100,7 @@ short_event event.Drop lawful = tt
 short_event (event.Tick replica) lawful = (short_number replica (omega (arith, lawful)), tt)
 short_event (event.Stop replica) lawful = (short_number replica (omega (arith, lawful)), tt)
 short_event (event.Remove replica) lawful = (short_number replica (omega (arith, lawful)), tt)
-short_event (event.Timeout replica) lawful = absurd lawful
+short_event (event.Timeout replica) lawful = (short_number replica (omega (arith, lawful)), tt)
 
 short_chain : IsShortWord (codes "chain")
 short_chain = record { seen = All-from_recursion IsVisible (codes "chain") (lit< tt, (lit< tt, (lit< tt, (lit< tt, (lit< tt, tt))))); short = lit≤ tt }
@@ -108,10 +108,13 @@ short_chain = record { seen = All-from_recursion IsVisible (codes "chain") (lit<
 short_primary : IsShortWord (codes "primary")
 short_primary = record { seen = All-from_recursion IsVisible (codes "primary") (lit< tt, (lit< tt, (lit< tt, (lit< tt, (lit< tt, (lit< tt, (lit< tt, tt))))))); short = lit≤ tt }
 
+short_vr : IsShortWord (codes "vr")
+short_vr = record { seen = All-from_recursion IsVisible (codes "vr") (lit< tt, (lit< tt, tt)); short = lit≤ tt }
+
 short_fields : (l : Line) → IsLawful l → AreShort (field_words l)
 short_fields (line.Group kind.Chain size) lawful = let few : size ≤ 7 = lawful.1 in (short_chain, (short_number size (omega arith), tt))
 short_fields (line.Group kind.Primary size) lawful = let few : size ≤ 7 = lawful.1 in (short_primary, (short_number size (omega arith), tt))
-short_fields (line.Group kind.Vr size) lawful = absurd lawful
+short_fields (line.Group kind.Vr size) lawful = let few : size ≤ 7 = lawful.1 in (short_vr, (short_number size (omega arith), tt))
 short_fields (line.Table stages bits) lawful =
     let few : stages ≤ max_stages = lawful.few in
     let small : bits ≤ max_bits = lawful.of_bits in

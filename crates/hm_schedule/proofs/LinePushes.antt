@@ -1,5 +1,5 @@
 -- Lines of a schedule, and one line more.
-use Rattle.std.proofs.Common.{◌≡◌, ◌≢◌, ℕ, ◌+◌, ◌<◌, ◌≤◌, List, [], ◌∷◌, ◌++◌, length, None, refl, sym, ap, ◌∙◌, arith, lit<, lit≤}
+use Rattle.std.proofs.Common.{◌≡◌, ℕ, ◌+◌, ◌<◌, ◌≤◌, List, [], ◌∷◌, ◌++◌, length, None, refl, sym, ap, ◌∙◌, arith, lit<, lit≤}
 use Rattle.std.specs.Prelude.{fold, filter_map}
 use Rattle.std.proofs.lemmas.List.{append-nil, length-append}
 use Rattle.std.proofs.lemmas.List.Elements.{filter_map-append}
@@ -10,7 +10,7 @@ use Rattle.hm_schedule.specs.Limits.{max_events}
 use Rattle.hm_schedule.specs.Setups.{setup_of, event_of}
 use Rattle.hm_schedule.specs.declared.event.Event.{Event}
 use Rattle.hm_schedule.specs.Orders.{Stage, MayCome, IsNext, ComeFrom, IsBegun, after, place_of, stage_of, events_at, line_bytes, lines_text, default_setup, set_by, setup_in, event_in, events_in}
-use Rattle.hm_schedule.specs.Schedules.{IsLawful}
+use Rattle.hm_schedule.specs.Schedules.{IsLawful, IsLawfulGroup}
 use Rattle.hm_schedule.specs.declared.line.Line.{Line}
 use Rattle.hm_schedule.specs.declared.line.Line.TheVariants as line
 use Rattle.hm_schedule.specs.Openings.{Says, opening_bound, max_opening}
@@ -110,29 +110,21 @@ few_events (Stage.Running events) e may = may
 pub event_push : (lines : List Line) (e : Event) → events_in (lines ++ line.Event e ∷ []) ≡ events_in lines ++ event_of e ∷ []
 event_push lines e = events_push lines (line.Event e)
 
--- ---- no group of Viewstamped Replication is read
+-- ---- the group that is read is lawful
 
-chain_is_vr : kind.Chain ≡ kind.Vr → ⊥
-chain_is_vr same = cc
+set_group : (s : rule.Setup) (l : Line) → IsLawful l → IsLawfulGroup s.kind s.size → IsLawfulGroup (set_by s l).kind (set_by s l).size
+set_group s (line.Group kind size) lawful before = lawful
+set_group s (line.Table stages bits) lawful before = before
+set_group s (line.Life life) lawful before = before
+set_group s (line.Log entries) lawful before = before
+set_group s (line.Event e) lawful before = before
 
-primary_is_vr : kind.Primary ≡ kind.Vr → ⊥
-primary_is_vr same = cc
+fold_group : (stage : Stage) (s : rule.Setup) (lines : List Line) → ComeFrom stage lines → IsLawfulGroup s.kind s.size → IsLawfulGroup (fold set_by s lines).kind (fold set_by s lines).size
+fold_group stage s [] come before = before
+fold_group stage s (l ∷ ls) come before = fold_group (after stage l) (set_by s l) ls come.1 (set_group s l come.0.0 before)
 
-set_kind : (s : rule.Setup) (l : Line) → IsLawful l → s.kind ≢ kind.Vr → (set_by s l).kind ≢ kind.Vr
-set_kind s (line.Group kind.Chain size) lawful other = chain_is_vr
-set_kind s (line.Group kind.Primary size) lawful other = primary_is_vr
-set_kind s (line.Group kind.Vr size) lawful other = absurd lawful
-set_kind s (line.Table stages bits) lawful other = other
-set_kind s (line.Life life) lawful other = other
-set_kind s (line.Log entries) lawful other = other
-set_kind s (line.Event e) lawful other = other
-
-fold_kind : (stage : Stage) (s : rule.Setup) (lines : List Line) → ComeFrom stage lines → s.kind ≢ kind.Vr → (fold set_by s lines).kind ≢ kind.Vr
-fold_kind stage s [] come other = other
-fold_kind stage s (l ∷ ls) come other = fold_kind (after stage l) (set_by s l) ls come.1 (set_kind s l come.0.0 other)
-
-pub setup_is_no_vr : (lines : List Line) → IsBegun lines → (setup_in lines).kind ≢ kind.Vr
-setup_is_no_vr lines begun = fold_kind Stage.Fresh (default_setup kind.Chain 1) lines begun chain_is_vr
+pub group_is_lawful : (lines : List Line) → IsBegun lines → IsLawfulGroup (setup_in lines).kind (setup_in lines).size
+group_is_lawful lines begun = fold_group Stage.Fresh (default_setup kind.Chain 1) lines begun (lit≤ tt, lit≤ tt)
 
 -- ---- events counted
 

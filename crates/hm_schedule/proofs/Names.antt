@@ -131,33 +131,19 @@ word_of_kind kind.Chain = word_from_visible (codes "chain") (letters (codes "cha
 word_of_kind kind.Primary = word_from_visible (codes "primary") (letters (codes "primary") (lit< tt, (lit< tt, (lit< tt, (lit< tt, (lit< tt, (lit< tt, (lit< tt, tt))))))))
 word_of_kind kind.Vr = word_from_visible (codes "vr") (letters (codes "vr") (lit< tt, (lit< tt, tt)))
 
--- each of those that are built is the one that is named so
-pub named_kind : (k : GroupKind) → k ≢ kind.Vr → kind_named (kind_text k) ≡ Some k
-named_kind kind.Chain other = refl
-named_kind kind.Primary other = refl
-named_kind kind.Vr other = absurd (other refl)
+-- each is the one that is named so
+pub named_kind : (k : GroupKind) → kind_named (kind_text k) ≡ Some k
+named_kind kind.Chain = refl
+named_kind kind.Primary = refl
+named_kind kind.Vr = refl
 
-chain_or_primary : (word : List ℕ) (k : GroupKind) (first second : Bool) → first ≡ bytes_eq word (codes "chain") → second ≡ bytes_eq word (codes "primary")
-    → (if first then Some kind.Chain else if second then Some kind.Primary else None) ≡ Some k → (word ≡ kind_text k) × (k ≢ kind.Vr)
-chain_or_primary word k true second is of same =
-    let one : kind.Chain ≡ k = same_Some kind.Chain k same in
-    ((bytes_eq-Decides word (codes "chain")).0 (sym is) ∙ ap kind_text one, λ vr. let no : kind.Chain ≡ kind.Vr = one ∙ vr in cc)
-chain_or_primary word k false true is of same =
-    let one : kind.Primary ≡ k = same_Some kind.Primary k same in
-    ((bytes_eq-Decides word (codes "primary")).0 (sym of) ∙ ap kind_text one, λ vr. let no : kind.Primary ≡ kind.Vr = one ∙ vr in cc)
-chain_or_primary word k false false is of same = absurd (none-some k same)
+kind_by : (word : List ℕ) (k : GroupKind) (first second third : Bool) → first ≡ bytes_eq word (codes "chain") → second ≡ bytes_eq word (codes "primary") → third ≡ bytes_eq word (codes "vr")
+    → (if first then Some kind.Chain else if second then Some kind.Primary else if third then Some kind.Vr else None) ≡ Some k → word ≡ kind_text k
+kind_by word k true second third is of at same = (bytes_eq-Decides word (codes "chain")).0 (sym is) ∙ ap kind_text (same_Some kind.Chain k same)
+kind_by word k false true third is of at same = (bytes_eq-Decides word (codes "primary")).0 (sym of) ∙ ap kind_text (same_Some kind.Primary k same)
+kind_by word k false false true is of at same = (bytes_eq-Decides word (codes "vr")).0 (sym at) ∙ ap kind_text (same_Some kind.Vr k same)
+kind_by word k false false false is of at same = absurd (none-some k same)
 
 -- a word that names a protocol is its text
-pub kind_spells : (word : List ℕ) (k : GroupKind) → kind_named word ≡ Some k → (word ≡ kind_text k) × (k ≢ kind.Vr)
-kind_spells word k same = chain_or_primary word k (bytes_eq word (codes "chain")) (bytes_eq word (codes "primary")) refl refl same
-
--- a group of one to seven of a protocol that is built
-pub group_lawful : (k : GroupKind) (size : ℕ) → k ≢ kind.Vr → 1 ≤ size → size ≤ 7 → IsLawfulGroup k size
-group_lawful kind.Chain size other some few = (some, few)
-group_lawful kind.Primary size other some few = (some, few)
-group_lawful kind.Vr size other some few = absurd (other refl)
-
-pub lawful_group : (k : GroupKind) (size : ℕ) → IsLawfulGroup k size → (k ≢ kind.Vr) × ((1 ≤ size) × (size ≤ 7))
-lawful_group kind.Chain size lawful = (λ same. cc, lawful)
-lawful_group kind.Primary size lawful = (λ same. cc, lawful)
-lawful_group kind.Vr size lawful = absurd lawful
+pub kind_spells : (word : List ℕ) (k : GroupKind) → kind_named word ≡ Some k → word ≡ kind_text k
+kind_spells word k same = kind_by word k (bytes_eq word (codes "chain")) (bytes_eq word (codes "primary")) (bytes_eq word (codes "vr")) refl refl refl same

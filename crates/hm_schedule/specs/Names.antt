@@ -49,9 +49,10 @@ kind_text kind.Chain = codes "chain"
 kind_text kind.Primary = codes "primary"
 kind_text kind.Vr = codes "vr"
 
--- the protocol that is this word, of those that are built so far
+-- the protocol that is this word
 abbrev pub kind_named : List ℕ → Option GroupKind
 kind_named word =
     if bytes_eq word (codes "chain") then Some kind.Chain
     else if bytes_eq word (codes "primary") then Some kind.Primary
+    else if bytes_eq word (codes "vr") then Some kind.Vr
     else None

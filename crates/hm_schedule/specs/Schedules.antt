@@ -1,5 +1,5 @@
 -- The lines of a schedule, and their one spelling.
-use Rattle.std.specs.Prelude.{ℕ, ◌^◌, ◌<◌, ◌≤◌, List, [], ◌∷◌, decimal}
+use Rattle.std.specs.Prelude.{◌≡◌, ℕ, ◌^◌, ◌%◌, ◌<◌, ◌≤◌, List, [], ◌∷◌, decimal}
 use Rattle.hm_base.specs.Spellings.{joined, value_text}
 use Rattle.hm_base.specs.declared.node.GroupKind.{GroupKind}
 use Rattle.hm_base.specs.declared.node.GroupKind.TheVariants as kind
@@ -74,7 +74,6 @@ pub record IsResend (client switch : ℕ) : Type 0 where
   pub of_client : client < 2 ^ 32
   pub of_switch : IsSwitch switch
 
--- replicas time out in a group of Viewstamped Replication alone, and none is built yet
 abbrev pub IsLawfulEvent : Event → Type 0
 IsLawfulEvent (event.Write client object value switch) = IsWrite client object value switch
 IsLawfulEvent (event.Read client object switch) = IsRead client object switch
@@ -85,13 +84,13 @@ IsLawfulEvent event.Drop = Unit {0}
 IsLawfulEvent (event.Tick replica) = replica ≤ 6
 IsLawfulEvent (event.Stop replica) = replica ≤ 6
 IsLawfulEvent (event.Remove replica) = replica ≤ 6
-IsLawfulEvent (event.Timeout replica) = ⊥
+IsLawfulEvent (event.Timeout replica) = replica ≤ 6
 
--- a chain or a primary-backup group of one to seven: no other group is built yet
+-- a group of one to seven; one of Viewstamped Replication has an odd size
 abbrev pub IsLawfulGroup : GroupKind → ℕ → Type 0
 IsLawfulGroup kind.Chain size = (1 ≤ size) × (size ≤ 7)
 IsLawfulGroup kind.Primary size = (1 ≤ size) × (size ≤ 7)
-IsLawfulGroup kind.Vr size = ⊥
+IsLawfulGroup kind.Vr size = (size % 2 ≡ 1) × (size ≤ 7)
 
 abbrev pub IsLawful : Line → Type 0
 IsLawful (line.Group kind size) = IsLawfulGroup kind size

@@ -1,7 +1,6 @@
 ghost use Rattle.std.specs.Prelude.{◌≡◌, ◌≢◌, ◌^◌, ◌<◌, ◌≤◌, ℕ, List, ◌∷◌, ◌++◌, IfSome, IfNone, IsSomeAnd, IsTrue, ◌↔◌, decimal};
 ghost use Rattle.hm_base.specs.Spellings.{value_text};
 ghost use Rattle.hm_base.specs.declared.node.GroupKind.{GroupKind};
-ghost use Rattle.hm_base.specs.declared.node.GroupKind.TheVariants.{Vr};
 ghost use Rattle.hm_schedule.specs.LineWords.{IsDigit, IsWord, IsWordEnd, SplitsWord};
 ghost use Rattle.hm_schedule.specs.Names.{kind_text, kind_named};
 ghost use Rattle.hm_schedule.specs.Ranges.{IsValue};
@@ -111,7 +110,7 @@ pub(crate) fn next_small(text: &[u8], most: u8) -> Option<(u8, &[u8])>
     }
 }
 
-/// The protocol that a word names, of those that are built so far. None exactly for any other word.
+/// The protocol that a word names. None exactly for any other word.
 fn kind_of(word: &[u8]) -> Option<GroupKind>
     ensures { result ≡ kind_named word.now }
 {
@@ -119,6 +118,8 @@ fn kind_of(word: &[u8]) -> Option<GroupKind>
         Some(GroupKind::Chain)
     } else if word == b"primary".as_slice() {
         Some(GroupKind::Primary)
+    } else if word == b"vr".as_slice() {
+        Some(GroupKind::Vr)
     } else {
         None
     }
@@ -126,8 +127,8 @@ fn kind_of(word: &[u8]) -> Option<GroupKind>
 
 /// The protocol behind a space, and the rest. None exactly for any other text.
 pub(crate) fn next_kind(text: &[u8]) -> Option<(GroupKind, &[u8])>
-    ensures some { IfSome result (λ found. (text.now ≡ 32 ∷ (kind_text found.0 ++ found.1.now)) × (found.0 ≢ Vr)) }
-    ensures only { (kind : GroupKind) → (rest : List ℕ) → kind ≢ Vr → IsWordEnd rest → text.now ≡ 32 ∷ (kind_text kind ++ rest)
+    ensures some { IfSome result (λ found. text.now ≡ 32 ∷ (kind_text found.0 ++ found.1.now)) }
+    ensures only { (kind : GroupKind) → (rest : List ℕ) → IsWordEnd rest → text.now ≡ 32 ∷ (kind_text kind ++ rest)
         → IsSomeAnd result (λ found. (found.0 ≡ kind) × (found.1.now ≡ rest)) }
 {
     match next_word(text) {

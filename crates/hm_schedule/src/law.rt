@@ -1,13 +1,13 @@
-ghost use Rattle.std.specs.Prelude.{◌≡◌, ◌≢◌, ℕ, List, length};
-ghost use Rattle.hm_base.specs.declared.node.GroupKind.TheVariants.{Vr};
+ghost use Rattle.std.specs.Prelude.{◌≡◌, ℕ, List, length};
 ghost use Rattle.hm_schedule.specs.Fronts.{GrowsByLines};
 ghost use Rattle.hm_schedule.specs.Orders.{IsBegun, IsSchedule, BreaksOff, lines_text, setup_in};
+ghost use Rattle.hm_schedule.specs.Schedules.{IsLawfulGroup};
 ghost use Rattle.hm_schedule.specs.declared.line.Line.{Line};
 
-/// What one line more adds to a schedule's front. Its group isn't one of Viewstamped Replication, as none is read yet.
+/// What one line more adds to a schedule's front, and that the front's setup has a lawful group.
 pub fn schedules_grow_by_lines()
     ensures grow { GrowsByLines }
-    ensures kind { (lines : List Line) → IsBegun lines → (setup_in lines).kind ≢ Vr }
+    ensures group { (lines : List Line) → IsBegun lines → IsLawfulGroup (setup_in lines).kind (setup_in lines).size }
 {}
 
 /// Bytes that break off do so behind one number of lines, and a schedule's bytes nowhere.

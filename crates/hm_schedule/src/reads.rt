@@ -1,6 +1,6 @@
 //! The fields behind a line's first word.
 
-ghost use Rattle.std.specs.Prelude.{◌≡◌, ◌<◌, ◌≤◌, ◌^◌, ℕ, List, [], ◌∷◌, Some, IfSome, decimal};
+ghost use Rattle.std.specs.Prelude.{◌≡◌, ◌<◌, ◌≤◌, ◌^◌, ◌↔◌, IsTrue, ℕ, List, [], ◌∷◌, Some, IfSome, decimal};
 ghost use Rattle.hm_base.specs.Spellings.{spaced, value_text};
 ghost use Rattle.hm_base.specs.declared.node.GroupKind.{GroupKind};
 ghost use Rattle.hm_schedule.specs.declared.event.Event.TheVariants as event;
@@ -13,6 +13,7 @@ use crate::event::Event;
 use crate::fields::{next_kind, next_number, next_small, next_value};
 use crate::keyword::Keyword;
 use crate::line::Line;
+use hm_base::node::GroupKind;
 use hm_dirtyset::dirty_set::{MAX_BITS, MAX_STAGES};
 use hm_store::ledger::MAX_LOG_LEN;
 use hm_switch::switch::MAX_LIFE;
@@ -36,7 +37,7 @@ pub(crate) fn read_fields(keyword: Keyword, fields: &[u8]) -> Option<Line>
         Keyword::Tick => read_tick(fields),
         Keyword::Stop => read_stop(fields),
         Keyword::Remove => read_remove(fields),
-        Keyword::Timeout => None,
+        Keyword::Timeout => read_timeout(fields),
     }
 }
 
@@ -47,10 +48,20 @@ fn read_group(fields: &[u8]) -> Option<Line>
 {
     let (kind, fields) = next_kind(fields)?;
     let (size, fields) = next_small(fields, 7)?;
-    if size == 0 || !fields.is_empty() {
+    if !has_size(kind, size) || !fields.is_empty() {
         return None;
     }
     Some(Line::Group { kind, size })
+}
+
+/// Whether groups of this protocol may have this size.
+fn has_size(kind: GroupKind, size: u8) -> bool
+    ensures { IsTrue result ↔ IsLawfulGroup kind size }
+{
+    match kind {
+        GroupKind::Chain | GroupKind::Primary => size >= 1 && size <= 7,
+        GroupKind::Vr => size % 2 == 1 && size <= 7,
+    }
 }
 
 /// The dirty table.
@@ -223,4 +234,13 @@ fn read_remove(fields: &[u8]) -> Option<Line>
 {
     let replica = read_replica(fields)?;
     Some(Line::Event(Event::Remove { replica }))
+}
+
+/// A replica that has waited too long for its primary.
+fn read_timeout(fields: &[u8]) -> Option<Line>
+    ensures some { IfSome result (λ l. Reads Keyword.Timeout fields.now l) }
+    ensures only { (r : ℕ) → r ≤ 6 → fields.now ≡ spaced (decimal r ∷ []) → result ≡ Some (Line.Event (event.Timeout r)) }
+{
+    let replica = read_replica(fields)?;
+    Some(Line::Event(Event::Timeout { replica }))
 }

@@ -40,4 +40,8 @@ mod switch;
 #[cfg(test)]
 mod view_change;
 #[cfg(test)]
+mod vr;
+#[cfg(test)]
+mod vr_rows;
+#[cfg(test)]
 mod world;

@@ -1,4 +1,5 @@
-use crate::rows::{ROWS, WRITE_THEN_READ};
+use crate::rows::{ROWS, Row, WRITE_THEN_READ};
+use crate::vr_rows::VR_ROWS;
 use hm_outside::adapters::{ReaderSource, WriterSink};
 use hm_outside::device::{Failed, Sink};
 use hm_outside::memory::{MemorySink, MemorySource};
@@ -8,6 +9,7 @@ use hm_replay::status::Status;
 use std::alloc::{AllocError, Global};
 use std::io;
 use std::io::Read;
+use std::process::Abort;
 use std::test::Fail;
 
 /// The text of the first event of [`WRITE_THEN_READ`].
@@ -67,21 +69,27 @@ impl Sink for Pieces {
     }
 }
 
-#[test]
-fn replays_each_row_piece_by_piece(rt: HostRuntime) -> Result<(), Fail> {
-    let words = words(rt.alloc(), &["replay"])?;
-    for row in &ROWS {
-        let mut source = source(rt.alloc(), row.schedule, &[])?;
+/// Asserts that schedules give these texts, piece by piece.
+fn assert_rows(rt: &impl Abort, alloc: Global, rows: &[Row]) -> Result<(), Fail> {
+    let words = words(alloc, &["replay"])?;
+    for row in rows {
+        let mut source = source(alloc, row.schedule, &[])?;
         let mut pieces = Pieces {
-            sink: sink(rt.alloc(), &[])?,
+            sink: sink(alloc, &[])?,
             are_whole: true,
         };
-        let status = run(rt.alloc(), &words, &mut source, &mut pieces);
+        let status = run(alloc, &words, &mut source, &mut pieces);
         assert_eq!(rt; status, row.status);
         assert_eq!(rt; pieces.sink.as_slice(), row.text);
         assert!(rt; pieces.are_whole);
     }
     Ok(())
+}
+
+#[test]
+fn replays_each_row_piece_by_piece(rt: HostRuntime) -> Result<(), Fail> {
+    assert_rows(&rt, rt.alloc(), &ROWS)?;
+    assert_rows(&rt, rt.alloc(), &VR_ROWS)
 }
 
 #[test]

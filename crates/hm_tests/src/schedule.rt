@@ -14,9 +14,14 @@ fn reads_setup_lines(rt: HostRuntime) {
         kind: GroupKind::Primary,
         size: 3,
     };
+    let viewed = Line::Group {
+        kind: GroupKind::Vr,
+        size: 5,
+    };
     let table = Line::Table { stages: 4, bits: 0 };
     assert_eq!(rt; read_line(b"group chain 7"), Ok(group));
     assert_eq!(rt; read_line(b"group primary 3"), Ok(backed));
+    assert_eq!(rt; read_line(b"group vr 5"), Ok(viewed));
     assert_eq!(rt; read_line(b"table 4 0"), Ok(table));
     assert_eq!(rt; read_line(b"life 4194304"), Ok(Line::Life(4_194_304)));
     assert_eq!(rt; read_line(b"log 1"), Ok(Line::Log(1)));
@@ -51,12 +56,14 @@ fn reads_lines_of_packets_and_replicas(rt: HostRuntime) {
     let tick = Event::Tick { replica: 6 };
     let stop = Event::Stop { replica: 0 };
     let remove = Event::Remove { replica: 2 };
+    let timeout = Event::Timeout { replica: 1 };
     assert_eq!(rt; read_line(b"deliver 9"), Ok(Line::Event(deliver)));
     assert_eq!(rt; read_line(b"next"), Ok(Line::Event(Event::Next)));
     assert_eq!(rt; read_line(b"drop"), Ok(Line::Event(Event::Drop)));
     assert_eq!(rt; read_line(b"tick 6"), Ok(Line::Event(tick)));
     assert_eq!(rt; read_line(b"stop 0"), Ok(Line::Event(stop)));
     assert_eq!(rt; read_line(b"remove 2"), Ok(Line::Event(remove)));
+    assert_eq!(rt; read_line(b"timeout 1"), Ok(Line::Event(timeout)));
 }
 
 #[test]
@@ -64,11 +71,11 @@ fn refuses_other_bytes(rt: HostRuntime) {
     let none = Err(LineReason::Word);
     assert_eq!(rt; read_line(b"group chain 8"), none);
     assert_eq!(rt; read_line(b"group primary 0"), none);
-    assert_eq!(rt; read_line(b"group vr 3"), none);
+    assert_eq!(rt; read_line(b"group vr 4"), none);
     assert_eq!(rt; read_line(b"table 0 3"), none);
     assert_eq!(rt; read_line(b"read 8 5 0"), none);
     assert_eq!(rt; read_line(b"deliver 4294967296"), none);
     assert_eq!(rt; read_line(b"tick 7"), none);
-    assert_eq!(rt; read_line(b"timeout 0"), none);
+    assert_eq!(rt; read_line(b"timeout 7"), none);
     assert_eq!(rt; read_line(b"next "), none);
 }

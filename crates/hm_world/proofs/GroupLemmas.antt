@@ -2,9 +2,11 @@
 use Rattle.std.proofs.Common.{◌≡◌, ℕ, ◌<◌, List, Some, map, refl, sym, ap, ◌∙◌, subst}
 use Rattle.std.specs.Prelude.{All, length, slice_get, slice_set}
 use Rattle.std.proofs.lemmas.List.Elements.{All-set, All-map}
+use Rattle.std.proofs.lemmas.Option.{same_Some}
 use Rattle.hm_base.proofs.ListLaws.{each_at, set_still, there_is}
 use Rattle.hm_base.specs.declared.node.GroupKind.{GroupKind}
 use Rattle.hm_codec.specs.declared.acted.Acted.{Acted}
+use Rattle.hm_replica.specs.Given.{Gives}
 use Rattle.hm_rules.specs.Replica.{Replica, opened}
 use Rattle.hm_rules.specs.ReplicaSteps.{Stepped}
 use Rattle.hm_step_laws.specs.Keeps.{Keeps}
@@ -38,3 +40,18 @@ group_members w new number acted steps there step keeps all =
 -- the members of an opened group
 pub all_opened : (cap : ℕ) (members numbers : List ℕ) → All (λ (r : Replica). r.cap ≡ cap) (map (λ me. opened me members cap) numbers)
 all_opened cap members numbers = All-map (λ (r : Replica). r.cap ≡ cap) (λ me. opened me members cap) numbers (λ k d l. refl)
+
+-- the one that a list of replicas has at a number made a step
+pub step_at : (old list : List Replica) (number : ℕ) (acted : Acted) (before after r : Replica) (step : Replica → Stepped) → old ≡ list → slice_get list number ≡ Some before → slice_get old number ≡ Some r
+    → Gives after acted (step before) → IsStepAt old (slice_set list number after) number acted (step r)
+step_at old list number acted before after r step same got here gives =
+    let one : before ≡ r = same_Some before r (sym got ∙ ap (λ (l : List Replica). slice_get l number) (sym same) ∙ here) in
+    record {
+      replicas = ap (λ (l : List Replica). slice_set l number after) (sym same) ∙ ap (λ (q : Replica). slice_set old number q) (gives.replica ∙ ap (λ (q : Replica). (step q).replica) one);
+      gives = record {
+        replica = refl;
+        outs = gives.outs ∙ ap (λ (q : Replica). (step q).outs) one;
+        declared = gives.declared ∙ ap (λ (q : Replica). (step q).declared) one;
+        did = gives.did ∙ ap (λ (q : Replica). (step q).did) one;
+      };
+    }

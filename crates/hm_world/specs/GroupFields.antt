@@ -12,10 +12,12 @@ use Rattle.hm_world.specs.declared.group.Group.TheInside.{Inside}
 abbrev pub kind_in : Members → GroupKind
 kind_in (members.Chain list) = kind.Chain
 kind_in (members.Primary list) = kind.Primary
+kind_in (members.Vr list) = kind.Vr
 
 abbrev pub replicas_in : Members → List Replica
 replicas_in (members.Chain list) = list.items
 replicas_in (members.Primary list) = list.items
+replicas_in (members.Vr list) = list.items
 
 abbrev pub grouped_of : Inside → Grouped
 grouped_of g = record { kind = kind_in g.members; cap = g.cap; replicas = replicas_in g.members }

@@ -1,5 +1,5 @@
 -- What contracts see of a group, and a step of one of its replicas.
-use Rattle.std.specs.Prelude.{◌≡◌, ◌≢◌, ℕ, Bool, true, false, List, slice_get, slice_set, Some}
+use Rattle.std.specs.Prelude.{◌≡◌, ◌≢◌, ℕ, ◌%◌, ◌≤◌, Bool, ◌&&◌, ◌==◌, nat_le, List, length, slice_get, slice_set, Some}
 use Rattle.hm_base.specs.declared.node.GroupKind.{GroupKind}
 use Rattle.hm_base.specs.declared.node.GroupKind.TheVariants as kind
 use Rattle.hm_codec.specs.declared.acted.Acted.{Acted}
@@ -7,12 +7,18 @@ use Rattle.hm_packet.specs.declared.acted.Did.TheVariants.{Done}
 use Rattle.hm_replica.specs.Given.{Gives}
 use Rattle.hm_rules.specs.Replica.{Replica}
 use Rattle.hm_rules.specs.ReplicaSteps.{Stepped}
+use Rattle.hm_rules.specs.Service.{replicas_below}
 
--- the protocols that are built so far
-abbrev pub is_built : GroupKind → Bool
-is_built kind.Chain = true
-is_built kind.Primary = true
-is_built kind.Vr = false
+-- a group of one to seven; one of Viewstamped Replication has an odd size
+abbrev pub forms : GroupKind → ℕ → Bool
+forms kind.Vr size = nat_le size 7 && (size % 2 == 1)
+forms other size = nat_le 1 size && nat_le size 7
+
+-- Members that never change are all replicas below an odd number.
+pub record AreFixed (members : List ℕ) : Type 0 where
+  pub numbered : members ≡ replicas_below (length members)
+  pub few : length members ≤ 7
+  pub odd : length members % 2 ≡ 1
 
 -- the protocol, how many entries a log may have, and the replicas by number
 pub record Grouped : Type 0 where

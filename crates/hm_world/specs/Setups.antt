@@ -3,12 +3,12 @@ use Rattle.std.specs.Prelude.{Bool, not, ◌&&◌, nat_le, if◌then◌else◌, 
 use Rattle.hm_schedule.specs.declared.event.Setup.{Setup}
 use Rattle.hm_schedule.specs.Limits.{max_stages, max_bits, max_life}
 use Rattle.hm_store.specs.Log.{max_log_len}
-use Rattle.hm_world.specs.Grouped.{is_built}
+use Rattle.hm_world.specs.Grouped.{forms}
 use Rattle.hm_world.specs.declared.fault.WorldFault.{WorldFault}
 use Rattle.hm_world.specs.declared.fault.WorldFault.TheVariants as fault
 
 abbrev pub is_group : Setup → Bool
-is_group s = is_built s.kind && (nat_le 1 s.size && nat_le s.size 7)
+is_group s = forms s.kind s.size
 
 -- the first part of a setup that is out of its range, if any is
 abbrev pub setup_fault : Setup → Option WorldFault

@@ -3,7 +3,7 @@ ghost use Rattle.hm_world.specs.Settled as settled;
 ghost use Rattle.hm_world.specs.Setups as setups;
 ghost use Rattle.hm_world.specs.declared.fault.WorldFault.TheVariants as fault;
 
-use crate::group::is_built;
+use crate::group::forms;
 use hm_base::memory::NoMemory;
 use hm_dirtyset::dirty_set::{MAX_BITS, MAX_STAGES};
 use hm_packet::outcome::Bar;
@@ -17,7 +17,7 @@ use thiserror::Error;
 /// Why a world can't be opened: the first part of its setup that is out of range, or want of memory.
 #[derive(Clone, Copy, Debug, PartialEq, Eq, Error)]
 pub enum WorldFault {
-    #[error("the group isn't one that can be run")]
+    #[error("a group has 1 to 7 members, of Viewstamped Replication 1, 3, 5 or 7")]
     Group,
     #[error("a dirty table has 1 to 4 stages")]
     Stages,
@@ -51,7 +51,7 @@ impl From<AllocError> for WorldFault {
 pub(crate) fn fault_of(setup: &Setup) -> Option<WorldFault>
     ensures { result ≡ setups.setup_fault setup.now }
 {
-    if !is_built(setup.kind) || setup.size < 1 || setup.size > 7 {
+    if !forms(setup.kind, setup.size) {
         Some(WorldFault::Group)
     } else if setup.stages < 1 || setup.stages > MAX_STAGES {
         Some(WorldFault::Stages)

@@ -4,7 +4,7 @@ ghost use Rattle.hm_rules.specs.Replica.{Replica, opened};
 ghost use Rattle.hm_rules.specs.Service.{is_fixed};
 ghost use Rattle.hm_rules.specs.Viewstamped.{vr_timeout};
 ghost use Rattle.hm_store.specs.Log.{max_log_len};
-ghost use Rattle.hm_world.specs.Grouped.{is_built, GroupSteps, StepsAt};
+ghost use Rattle.hm_world.specs.Grouped.{forms, AreFixed, GroupSteps, StepsAt};
 ghost use Rattle.hm_world.specs.GroupFields.{kind_in, replicas_in};
 
 use hm_base::memory::NoMemory;
@@ -15,6 +15,7 @@ use hm_packet::packet::Packet;
 use hm_primary_backup::primary::Primary;
 use hm_step_laws::steps::every_step_keeps;
 use hm_store::ledger::Ledger;
+use hm_vr::vr::Vr;
 use std::alloc::Global;
 use std::marker::Model;
 
@@ -23,6 +24,7 @@ use std::marker::Model;
 pub(crate) enum Members {
     Chain(Vec<Chain>),
     Primary(Vec<Primary>),
+    Vr(Vec<Vr>),
 }
 
 /// All replicas of a group, by number: each of the calls acts by their protocol. Contracts see which it is, how many entries a log
@@ -53,7 +55,7 @@ impl Group {
         cap: u32,
         members: &hm_base::members::Members,
     ) -> Result<Group, NoMemory>
-        requires built { is_built kind ≡ true }
+        requires fixed { is_fixed kind ≡ true → AreFixed members.now }
         requires bounded { cap ≤ max_log_len }
         ensures { IfOk result (λ g. g ≡ record { kind = kind; cap = cap; replicas = map (λ me. opened me members.now cap) members.now }) }
     {
@@ -70,6 +72,7 @@ impl Group {
         match &self.members {
             Members::Chain(list) => list.len(),
             Members::Primary(list) => list.len(),
+            Members::Vr(list) => list.len(),
         }
     }
 
@@ -79,6 +82,7 @@ impl Group {
     {
         match &self.members {
             Members::Chain(_) | Members::Primary(_) => false,
+            Members::Vr(_) => true,
         }
     }
 
@@ -131,11 +135,14 @@ impl Group {
     }
 }
 
-/// Whether groups of this protocol can be run.
-pub(crate) fn is_built(kind: GroupKind) -> bool
-    ensures { result ≡ is_built kind }
+/// Whether groups of this protocol may have this size.
+pub(crate) fn forms(kind: GroupKind, size: u8) -> bool
+    ensures { result ≡ forms kind size }
 {
-    matches!(kind, GroupKind::Chain | GroupKind::Primary)
+    match kind {
+        GroupKind::Chain | GroupKind::Primary => 1 <= size && size <= 7,
+        GroupKind::Vr => size <= 7 && size % 2 == 1,
+    }
 }
 
 /// The members before their first packets.
@@ -145,7 +152,7 @@ fn open_members(
     cap: u32,
     members: &hm_base::members::Members,
 ) -> Result<Members, NoMemory>
-    requires built { is_built kind ≡ true }
+    requires fixed { is_fixed kind ≡ true → AreFixed members.now }
     requires bounded { cap ≤ max_log_len }
     ensures kind { IfOk result (λ ms. kind_in ms ≡ kind) }
     ensures replicas { IfOk result (λ ms. replicas_in ms ≡ map (λ me. opened me members.now cap) members.now) }
@@ -153,7 +160,7 @@ fn open_members(
     match kind {
         GroupKind::Chain => Ok(Members::Chain(open_chains(alloc, cap, members)?)),
         GroupKind::Primary => Ok(Members::Primary(open_primaries(alloc, cap, members)?)),
-        GroupKind::Vr => unreachable!(),
+        GroupKind::Vr => Ok(Members::Vr(open_vrs(alloc, cap, members)?)),
     }
 }
 
@@ -189,6 +196,24 @@ fn open_primaries(
     Ok(replicas)
 }
 
+/// The replicas of a group of Viewstamped Replication before their first packets.
+fn open_vrs(
+    alloc: Global,
+    cap: u32,
+    members: &hm_base::members::Members,
+) -> Result<Vec<Vr>, NoMemory>
+    requires fixed { AreFixed members.now }
+    requires bounded { cap ≤ max_log_len }
+    ensures { IfOk result (λ rs. rs.items ≡ map (λ me. opened me members.now cap) members.now) }
+{
+    let size = members.len();
+    let mut replicas = Vec::with_capacity(alloc, size as usize)?;
+    for me in members.as_slice() {
+        replicas.push(Vr::open(alloc, *me, size as u8, cap)?)?;
+    }
+    Ok(replicas)
+}
+
 /// The log of one of these.
 fn log_in(members: &Members, number: u8) -> &Ledger
     requires { number < length (replicas_in members.now) }
@@ -198,6 +223,7 @@ fn log_in(members: &Members, number: u8) -> &Ledger
     match members {
         Members::Chain(list) => list[number as usize].shim().log(),
         Members::Primary(list) => list[number as usize].shim().log(),
+        Members::Vr(list) => list[number as usize].shim().log(),
     }
 }
 
@@ -210,6 +236,7 @@ fn step_in(members: &mut Members, number: u8, packet: &Packet, acted: &mut Acted
     match members {
         Members::Chain(list) => list[number as usize].step(packet, acted),
         Members::Primary(list) => list[number as usize].step(packet, acted),
+        Members::Vr(list) => list[number as usize].step(packet, acted),
     }
 }
 
@@ -222,6 +249,7 @@ fn tick_in(members: &mut Members, number: u8, acted: &mut Acted)
     match members {
         Members::Chain(list) => list[number as usize].tick(acted),
         Members::Primary(list) => list[number as usize].tick(acted),
+        Members::Vr(list) => list[number as usize].tick(acted),
     }
 }
 
@@ -234,5 +262,6 @@ fn timeout_in(members: &mut Members, number: u8, acted: &mut Acted)
 {
     match members {
         Members::Chain(_) | Members::Primary(_) => {}
+        Members::Vr(list) => list[number as usize].timeout(acted),
     }
 }

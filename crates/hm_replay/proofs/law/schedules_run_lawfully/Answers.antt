@@ -1,12 +1,13 @@
-use Rattle.std.proofs.Common.{◌≢◌, ◌≤◌, ◌<◌, ◌^◌, ℕ, length, arith}
+use Rattle.std.proofs.Common.{◌≡◌, ◌≢◌, ◌≤◌, ◌<◌, ◌^◌, ◌%◌, ℕ, length, subst, arith}
 use Rattle.std.specs.Prelude.{All}
 use Rattle.std.proofs.lemmas.List.Elements.{All-from_recursion}
-use Rattle.hm_base.specs.declared.node.GroupKind.TheVariants as kind
+use Rattle.hm_base.specs.declared.node.GroupKind.{GroupKind}
 use Rattle.hm_rules.specs.Events.{Setup}
 use Rattle.hm_group_laws.specs.Groups.{CanForm}
 use Rattle.hm_schedule.specs.Limits.{max_events}
 use Rattle.hm_schedule.specs.Orders.{setup_in, events_in}
 use Rattle.hm_schedule.specs.Reasons.{reason_text}
+use Rattle.hm_schedule.specs.Schedules.{IsLawfulGroup}
 use Rattle.hm_schedule.specs.declared.line.LineReason.TheVariants.{Word}
 use Rattle.hm_replay.specs.Replays.{full_in}
 use Rattle.hm_replay.proofs.law.schedules_run_lawfully.Goals as goal
@@ -17,8 +18,10 @@ fits n few = omega arith
 word_goes_on : All (λ (byte : ℕ). byte ≢ 10) (reason_text Word)
 word_goes_on = All-from_recursion (λ (byte : ℕ). byte ≢ 10) (reason_text Word) (λ same. omega arith, (λ same. omega arith, (λ same. omega arith, (λ same. omega arith, tt))))
 
-other_forms : (setup : Setup) → setup.kind ≢ kind.Vr → CanForm setup
-other_forms setup other = λ vr. absurd (other vr)
+lawful_forms : (setup : Setup) → IsLawfulGroup setup.kind setup.size → CanForm setup
+lawful_forms setup lawful = λ vr.
+    let odd : setup.size % 2 ≡ 1 = (subst (λ (k : GroupKind). IsLawfulGroup k setup.size) vr lawful).0 in
+    omega (arith, odd)
 
 pub returns : goal.returns
 returns c = record {
@@ -29,5 +32,5 @@ returns c = record {
   shown_whole = λ lines begun. c.texts_show_their_refusals.ensures.whole (setup_in lines) (events_in lines) (fits (length (events_in lines)) (c.schedules_grow_by_lines.ensures.grow.few lines begun));
   shown_cut = λ lines begun. c.texts_show_their_refusals.ensures.cut (setup_in lines) (events_in lines) (fits (length (events_in lines)) (c.schedules_grow_by_lines.ensures.grow.few lines begun));
   shown_bad = λ lines number begun. c.texts_show_their_refusals.ensures.bad (setup_in lines) (events_in lines) number (reason_text Word) (fits (length (events_in lines)) (c.schedules_grow_by_lines.ensures.grow.few lines begun)) word_goes_on;
-  legal = λ lines begun. c.every_group_is_linearizable.ensures.legal (setup_in lines) (events_in lines) (full_in lines) (other_forms (setup_in lines) (c.schedules_grow_by_lines.ensures.kind lines begun));
+  legal = λ lines begun. c.every_group_is_linearizable.ensures.legal (setup_in lines) (events_in lines) (full_in lines) (lawful_forms (setup_in lines) (c.schedules_grow_by_lines.ensures.group lines begun));
 }

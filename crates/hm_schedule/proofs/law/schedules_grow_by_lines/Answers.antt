@@ -1,4 +1,4 @@
-use Rattle.hm_schedule.proofs.LinePushes.{begun_push, stage_push, text_push, setup_push, event_push, stage_count, few_in, few_events, setup_is_no_vr}
+use Rattle.hm_schedule.proofs.LinePushes.{begun_push, stage_push, text_push, setup_push, event_push, stage_count, few_in, few_events, group_is_lawful}
 use Rattle.hm_schedule.proofs.law.schedules_grow_by_lines.Goals as goal
 
 pub returns-clause-grow : goal.returns-clause-grow
@@ -13,5 +13,5 @@ returns-clause-grow c = record {
   room = few_events;
 }
 
-pub returns-clause-kind : goal.returns-clause-kind
-returns-clause-kind c = setup_is_no_vr
+pub returns-clause-group : goal.returns-clause-group
+returns-clause-group c = group_is_lawful
