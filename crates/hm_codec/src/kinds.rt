@@ -43,6 +43,7 @@ macro_rules! packet {
 }
 
 /// Reads the packet of a read.
+#[inline(always)]
 pub(crate) fn read_packet(head: Head, bytes: &[u8], packet: &mut Packet) -> Result<(), Malformed>
     requires src { IsLawfulNode head.src }
     requires dst { IsLawfulNode head.dst }
@@ -53,6 +54,7 @@ pub(crate) fn read_packet(head: Head, bytes: &[u8], packet: &mut Packet) -> Resu
 }
 
 /// Reads the packet of a write.
+#[inline(always)]
 pub(crate) fn write_packet(head: Head, bytes: &[u8], packet: &mut Packet) -> Result<(), Malformed>
     requires src { IsLawfulNode head.src }
     requires dst { IsLawfulNode head.dst }
@@ -63,6 +65,7 @@ pub(crate) fn write_packet(head: Head, bytes: &[u8], packet: &mut Packet) -> Res
 }
 
 /// Reads the packet of a numbered write.
+#[inline(always)]
 pub(crate) fn put_packet(head: Head, bytes: &[u8], packet: &mut Packet) -> Result<(), Malformed>
     requires src { IsLawfulNode head.src }
     requires dst { IsLawfulNode head.dst }
@@ -73,6 +76,7 @@ pub(crate) fn put_packet(head: Head, bytes: &[u8], packet: &mut Packet) -> Resul
 }
 
 /// Reads the packet of a stamped read.
+#[inline(always)]
 pub(crate) fn fast_read_packet(
     head: Head,
     bytes: &[u8],
@@ -93,6 +97,7 @@ pub(crate) fn fast_read_packet(
 }
 
 /// Reads the packet of a read that goes the normal way.
+#[inline(always)]
 pub(crate) fn normal_read_packet(
     head: Head,
     bytes: &[u8],
@@ -113,6 +118,7 @@ pub(crate) fn normal_read_packet(
 }
 
 /// Reads the packet of a completion.
+#[inline(always)]
 pub(crate) fn done_packet(head: Head, bytes: &[u8], packet: &mut Packet) -> Result<(), Malformed>
     requires src { IsLawfulNode head.src }
     requires dst { IsLawfulNode head.dst }
@@ -123,6 +129,7 @@ pub(crate) fn done_packet(head: Head, bytes: &[u8], packet: &mut Packet) -> Resu
 }
 
 /// Reads the packet of an answer.
+#[inline(always)]
 pub(crate) fn reply_packet(head: Head, bytes: &[u8], packet: &mut Packet) -> Result<(), Malformed>
     requires src { IsLawfulNode head.src }
     requires dst { IsLawfulNode head.dst }
@@ -161,6 +168,7 @@ pub(crate) fn feed_packet<'a>(
 }
 
 /// Reads the packet of how long a list is held.
+#[inline(always)]
 pub(crate) fn feed_ack_packet(
     head: Head,
     bytes: &[u8],
@@ -181,6 +189,7 @@ pub(crate) fn feed_ack_packet(
 }
 
 /// Reads the packet of a call for a completion.
+#[inline(always)]
 pub(crate) fn ask_packet(head: Head, bytes: &[u8], packet: &mut Packet) -> Result<(), Malformed>
     requires src { IsLawfulNode head.src }
     requires dst { IsLawfulNode head.dst }
@@ -191,6 +200,7 @@ pub(crate) fn ask_packet(head: Head, bytes: &[u8], packet: &mut Packet) -> Resul
 }
 
 /// Reads the packet of how much is committed.
+#[inline(always)]
 pub(crate) fn known_packet(head: Head, bytes: &[u8], packet: &mut Packet) -> Result<(), Malformed>
     requires src { IsLawfulNode head.src }
     requires dst { IsLawfulNode head.dst }
@@ -201,6 +211,7 @@ pub(crate) fn known_packet(head: Head, bytes: &[u8], packet: &mut Packet) -> Res
 }
 
 /// Reads the packet of a view that is entered.
+#[inline(always)]
 pub(crate) fn start_view_change_packet(
     head: Head,
     bytes: &[u8],
@@ -221,6 +232,7 @@ pub(crate) fn start_view_change_packet(
 }
 
 /// Reads the packet of a vote.
+#[inline(always)]
 pub(crate) fn vote_packet(head: Head, bytes: &[u8], packet: &mut Packet) -> Result<(), Malformed>
     requires src { IsLawfulNode head.src }
     requires dst { IsLawfulNode head.dst }
@@ -231,6 +243,7 @@ pub(crate) fn vote_packet(head: Head, bytes: &[u8], packet: &mut Packet) -> Resu
 }
 
 /// Reads the packet of a call for a log.
+#[inline(always)]
 pub(crate) fn pull_packet(head: Head, bytes: &[u8], packet: &mut Packet) -> Result<(), Malformed>
     requires src { IsLawfulNode head.src }
     requires dst { IsLawfulNode head.dst }
@@ -287,6 +300,7 @@ pub(crate) fn route_packet(head: Head, bytes: &[u8], packet: &mut Packet) -> Res
 }
 
 /// Reads the packet of a switch to be refused.
+#[inline(always)]
 pub(crate) fn refuse_packet(head: Head, bytes: &[u8], packet: &mut Packet) -> Result<(), Malformed>
     requires src { IsLawfulNode head.src }
     requires dst { IsLawfulNode head.dst }
@@ -297,6 +311,7 @@ pub(crate) fn refuse_packet(head: Head, bytes: &[u8], packet: &mut Packet) -> Re
 }
 
 /// Reads the packet of a refused switch.
+#[inline(always)]
 pub(crate) fn refused_packet(head: Head, bytes: &[u8], packet: &mut Packet) -> Result<(), Malformed>
     requires src { IsLawfulNode head.src }
     requires dst { IsLawfulNode head.dst }
