@@ -1,3 +1,5 @@
+ghost use Rattle.std.specs.Prelude.{◌≤◌};
+
 use crate::chain::{ONE, assert_last, from_switch, page_of_one, write};
 use hm_base::node::Node;
 use hm_base::value::Value;
