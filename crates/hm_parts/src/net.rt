@@ -64,7 +64,7 @@ impl Net {
 
     /// Reads the packet at a place, counted from 0, into its place, and its page, if it has one, into the room. False exactly from
     /// `len()` on.
-    #[inline(always)]
+    #[inline(never)]
     pub fn read<'a>(&self, place: u32, room: &'a mut PageRoom, packet: &mut Packet<'a>) -> bool
         ensures { (if result then Some packet.new else None) ≡ slice_get self.now.packets place }
     {

@@ -1,3 +1,5 @@
+ghost use Rattle.std.specs.Prelude.{◌≤◌};
+
 use crate::chain::{ONE, assert_last, from_switch, page_of_one, write};
 use hm_base::node::Node;
 use hm_base::value::Value;
@@ -42,11 +44,7 @@ fn a_replica_alone_logs_reads(rt: HostRuntime) -> Result<(), Fail> {
     replica.step(&from_switch(0, Body::NormalRead(READ)), &mut acted);
     assert_last(&rt, alloc, &acted, b"r0 c8 reply 1 1.1 61")?;
     assert_eq!(rt; acted.declared, Declared { from: 1, to: 2 });
-    replica.step(&from_switch(0, Body::NormalRead(READ)), &mut acted);
-    assert_last(&rt, alloc, &acted, b"r0 c8 reply 1 1.1 61")?;
     assert_eq!(rt; replica.shim().log().len(), 2);
-    replica.tick(&mut acted);
-    assert_last(&rt, alloc, &acted, b"r0 s1 done 1.1 7 1")?;
     Ok(())
 }
 
