@@ -1,4 +1,4 @@
-ghost use Rattle.std.specs.Prelude.{◌≡◌, slice_get};
+ghost use Rattle.std.specs.Prelude.{◌≡◌, max, unwrap_or, slice_get};
 ghost use Rattle.hm_base.specs.Taking as taking;
 ghost use Rattle.hm_feed.specs.Sending as sending;
 
@@ -11,22 +11,23 @@ pub(crate) fn held_by(sender: &Sender, members: &Members, me: u8, k: u8) -> u32
 {
     let mut greatest = 0u32;
     for i in 0..members.len() {
-        let candidate = supported(sender, members, me, k, i);
-        greatest = greatest.max(candidate.unwrap_or(0));
+        greatest = raised(sender, members, me, k, i, greatest);
     }
     greatest
 }
 
-/// What the member at a place acknowledged, where it is another and at least so many others reach that length.
-fn supported(sender: &Sender, members: &Members, me: u8, k: u8, i: u32) -> Option<u32>
-    ensures { result ≡ sending.supported k (sending.others_acked sender.now me members.now) (sending.other_acked sender.now me (slice_get members.now i)) }
+/// The greater of a length and what the member at a place acknowledged, where it is another and at least so many others reach
+/// that. Others are counted only where it is greater.
+fn raised(sender: &Sender, members: &Members, me: u8, k: u8, i: u32, greatest: u32) -> u32
+    ensures { result ≡ max greatest (unwrap_or (sending.supported k (sending.others_acked sender.now me members.now) (sending.other_acked sender.now me (slice_get members.now i))) 0) }
 {
-    let len = other_acked(sender, members, me, i)?;
-    if count_reaching(sender, members, me, len) >= u32::from(k) {
-        Some(len)
-    } else {
-        None
+    let Some(len) = other_acked(sender, members, me, i) else {
+        return greatest;
+    };
+    if len <= greatest || count_reaching(sender, members, me, len) < u32::from(k) {
+        return greatest;
     }
+    len
 }
 
 /// How many members other than this one acknowledged a length.

@@ -15,5 +15,4 @@ loop-i-preserved c =
     let other : Option ℕ = sending.other_acked s c.args.me (slice_get members i) in
     let most = λ (l : List ℕ). fold max 0 (filter (λ m. nat_le c.args.k (sending.count_reaching m all)) l) in
     let step = ap most (others_more s c.args.me members i) ∙ greatest_more c.args.k all here other in
-    let candidate = c.unwrap_or.ensures ∙ ap (λ (o : Option ℕ). unwrap_or o 0) c.supported-candidate.ensures in
-    c.max-greatest.ensures ∙ ap (λ (n : ℕ). max n c.unwrap_or.result) c.loop-i.invariant ∙ ap (λ (n : ℕ). max (most here) n) candidate ∙ sym step
+    c.raised-greatest.ensures ∙ ap (λ (n : ℕ). max n (unwrap_or (sending.supported c.args.k all other) 0)) c.loop-i.invariant ∙ sym step
