@@ -1,2 +1,2 @@
 mod GroupLemmas
-mod RefusedLemmas
+mod MarkLemmas
