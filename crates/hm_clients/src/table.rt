@@ -1,7 +1,9 @@
-ghost use Rattle.std.specs.Prelude.{◌≡◌, ◌<◌, ◌≤◌, [], ◌∷◌, ◌++◌, List, IfOk, Some};
+ghost use Rattle.std.specs.Prelude.{◌≡◌, ◌<◌, ◌≤◌, ◌+◌, ◌-◌, ℕ, [], ◌∷◌, ◌++◌, List, length, take, reverse, slice_get, IfOk, Some};
 ghost use Rattle.hm_base.specs.declared.entry.Entry.{Entry};
 ghost use Rattle.hm_base.specs.Logs.{greatest_request, is_newer};
 ghost use Rattle.hm_base.specs.Verdicts.{judge, judged};
+ghost use Rattle.hm_base.specs.declared.verdict.LatestRequest.{LatestRequest};
+ghost use Rattle.hm_clients.specs.Cut.{noted_below};
 ghost use Rattle.hm_clients.specs.Table.{StandsFor, latest_of};
 ghost use Rattle.hm_store.specs.Log.{max_log_len};
 
@@ -66,6 +68,7 @@ impl ClientTable {
         requires next { index ≡ self.old.count }
         requires room { index < self.old.cap }
         ensures noted { (log : List Entry) → StandsFor self.old log → StandsFor self.new (log ++ entry.now ∷ []) }
+        ensures count { self.new.count ≡ index + 1 }
         ensures cap { self.new.cap ≡ self.old.cap }
     {
         let request = entry.request;
@@ -75,6 +78,19 @@ impl ClientTable {
             self.clients.push(Some(entry.client));
         }
         self.count = index + 1;
+    }
+
+    /// Keeps what was noted of the first `len` entries, and forgets the others.
+    pub fn truncate(&mut self, len: u32)
+        requires { len ≤ self.old.count }
+        ensures front { (log : List Entry) → StandsFor self.old log → StandsFor self.new (take len log) }
+        ensures count { self.new.count ≡ len }
+        ensures cap { self.new.cap ≡ self.old.cap }
+    {
+        let kept = count_below(&self.requests, len);
+        self.requests.truncate(kept);
+        self.clients.truncate(kept as u32);
+        self.count = len;
     }
 
     /// Forgets every entry.
@@ -106,6 +122,19 @@ impl ClientTable {
             Some(known) => known.request < request,
         }
     }
+}
+
+/// How many of the requests, the first ones, are of entries below this index.
+fn count_below(requests: &[(u32, LatestRequest)], index: u32) -> usize
+    ensures within { result ≤ length requests.now }
+    ensures last { (request : ℕ × LatestRequest) → 0 < result → slice_get requests.now (result - 1) ≡ Some request → request.1.index < index }
+    ensures front { reverse (take result requests.now) ≡ noted_below index (reverse requests.now) }
+{
+    let mut count = requests.len();
+    while count > 0 && requests[count - 1].1.index >= index {
+        count -= 1;
+    }
+    count
 }
 
 /// How a request stands to the client's latest.

@@ -159,9 +159,14 @@ impl Shim {
         ensures log { self.new ≡ record self.old { entries = staged.old.entries } }
         ensures staged { staged.new ≡ record staged.old { entries = []; applied = 0 } }
     {
+        let applied = self.log.applied_len();
         self.log.replace(staged);
-        self.clients.clear();
-        note_all(&mut self.clients, self.log.entries(0, self.log.len()));
+        self.clients.truncate(applied);
+        note_all(
+            &mut self.clients,
+            applied,
+            self.log.entries(applied, self.log.len()),
+        );
     }
 
     /// Applies the log up to `k` entries.
@@ -174,16 +179,16 @@ impl Shim {
     }
 }
 
-/// Notes each entry of a log with its index.
-fn note_all(clients: &mut ClientTable, log: &[Entry])
-    requires empty { StandsFor clients.old [] }
-    requires room { length log.now ≤ clients.old.cap }
-    requires few { length log.now < 2 ^ 32 }
-    ensures noted { StandsFor clients.new log.now }
+/// Notes each entry behind the first ones of a log, of which there are so many, with its index.
+fn note_all(clients: &mut ClientTable, first: u32, entries: &[Entry])
+    requires next { first ≡ clients.old.count }
+    requires room { first + length entries.now ≤ clients.old.cap }
+    requires few { first + length entries.now < 2 ^ 32 }
+    ensures noted { (front : List Entry) → StandsFor clients.old front → StandsFor clients.new (front ++ entries.now) }
     ensures cap { clients.new.cap ≡ clients.old.cap }
 {
-    for (index, entry) in log.iter().enumerate() {
-        clients.note(entry, index as u32);
+    for (place, entry) in entries.iter().enumerate() {
+        clients.note(entry, first + place as u32);
     }
 }
 

@@ -1,4 +1,5 @@
 mod Chains
 mod Ends
 mod Parts
+mod Popped
 mod Writes

@@ -1,4 +1,4 @@
-ghost use Rattle.std.specs.Prelude.{◌≡◌, ◌<◌, ◌≤◌, ◌%◌, [], ◌∷◌, ◌++◌, length, replicate, IfOk};
+ghost use Rattle.std.specs.Prelude.{◌≡◌, ◌<◌, ◌≤◌, ◌-◌, ◌%◌, [], ◌∷◌, ◌++◌, length, take, replicate, IfOk};
 ghost use Rattle.hm_store.specs.Keys.{IsLastPlace};
 ghost use Rattle.hm_store.specs.Log.{max_log_len};
 
@@ -14,8 +14,8 @@ const BUCKETS: u32 = 1_024;
 ///
 /// The places whose keys fall into one bucket are chained, the last first, and a search walks along the chain of its key's
 /// bucket. Whoever chooses the keys can have all of them fall into one bucket; then a search passes every place. A schedule of
-/// 16,384 events stays well below a second all the same: an entry of a log takes three events at least, each of seven replicas
-/// searches for it once or twice, and so all chains together are passed in some 10^8 steps, each a few bytes on in an array.
+/// 16,384 events stays well below a second all the same: each event brings a replica sixteen entries at most, each of which is
+/// searched for once or twice, and a step along a chain is a few bytes on in an array.
 #[derive(Drop)]
 pub struct LastPlaces {
     /// The last place of each bucket: one more than its number, and 0 for none.
@@ -79,6 +79,42 @@ impl LastPlaces {
     {
         self.links.clear();
         self.heads.fill(0);
+    }
+
+    /// Keeps the first `len` places, and takes the others out.
+    pub fn truncate(&mut self, len: u32)
+        requires { len ≤ length self.old.items }
+        ensures items { self.new.items ≡ take len self.old.items }
+        ensures cap { self.new.cap ≡ self.old.cap }
+    {
+        while self.links.len() > len as usize {
+            self.pop();
+        }
+    }
+
+    /// Takes the last place out.
+    fn pop(&mut self)
+        requires { 0 < length self.old.items }
+        ensures items { self.new.items ≡ take (length self.old.items - 1) self.old.items }
+        ensures cap { self.new.cap ≡ self.old.cap }
+    {
+        let Some(link) = self.links.pop() else {
+            unreachable!()
+        };
+        if let Some(key) = link.key {
+            self.heads[bucket_of(key)] = link.before;
+        }
+    }
+
+    /// This list becomes as another one, which has room for as many keys.
+    pub fn copy_from(&mut self, from: &LastPlaces)
+        requires { from.now.cap ≡ self.old.cap }
+        ensures { self.new ≡ from.now }
+    {
+        self.heads.copy_from_slice(&from.heads);
+        self.links.clear();
+        let copied: Result<_, _> = self.links.extend_from_slice(&from.links);
+        copied.unwrap();
     }
 
     /// The last place of a key among the first `end` places, counted from 0. None exactly where none of them has it.

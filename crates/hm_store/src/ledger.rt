@@ -133,11 +133,11 @@ impl Ledger {
         ensures { self.new ≡ record self.old { entries = take k from.now.entries; applied = 0 } }
     {
         self.entries.clear();
-        self.writes.clear();
+        let copied: Result<_, _> = self.entries.extend_from_slice(&from.entries[..k as usize]);
+        copied.unwrap();
+        self.writes.copy_from(&from.writes);
+        self.writes.truncate(k);
         self.applied_len = 0;
-        for entry in &from.entries[..k as usize] {
-            let _ = self.push(*entry);
-        }
     }
 
     /// The stamp and value of the object's last write in the log. None exactly where it has none.

@@ -1,9 +1,11 @@
-use Rattle.std.proofs.Common.{◌≡◌, take}
+use Rattle.std.proofs.Common.{◌≡◌, ◌+◌, ◌++◌, List, take}
+use Rattle.hm_base.specs.declared.entry.Entry.{Entry}
 use Rattle.hm_clients.specs.Table.{StandsFor}
 use Rattle.hm_shim.proofs.shim.note_all.Given as goal
 
-abbrev pub invariant-loop-index : goal.invariant-loop-index
-invariant-loop-index l = record {
-  noted : StandsFor l.clients (take l.index l.log);
+abbrev pub invariant-loop-place : goal.invariant-loop-place
+invariant-loop-place l = record {
+  noted : (front : List Entry) → StandsFor l.initial.clients front → StandsFor l.clients (front ++ take l.place l.entries);
+  count : l.clients.count ≡ l.first + l.place;
   cap : l.clients.cap ≡ l.initial.clients.cap;
 }
