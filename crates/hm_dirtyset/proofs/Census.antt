@@ -1,15 +1,19 @@
 -- The live slots of a table are those of just the objects with live numbers, one each.
 use Rattle.std.proofs.Common.{◌≡◌, ◌≢◌, ℕ, zero, suc, ◌+◌, ◌*◌, ◌/◌, ◌%◌, ◌^◌, ◌<◌, Bool, true, false, cond, List, [], ◌∷◌, length, Option, Some, None, refl, sym, ap, ◌∙◌, subst, inl, inr, arith}
-use Rattle.std.specs.Prelude.{◌&&◌, ◌||◌, ◌==◌, nat_lt, if◌then◌else◌, slice_get, is_some}
-use Rattle.std.specs.List.{AllByRecursion, list_any, count_by}
-use Rattle.std.proofs.lemmas.Bool.{cases_Bool, both_ways, false≢true, lt-ltb, ltb-true, eqb-true, eq-eqb, or_cases, or_left, or_right, cond-true, cond-false, cond_both}
+use Rattle.std.specs.Prelude.{◌&&◌, ◌||◌, ◌==◌, nat_eq, nat_lt, if◌then◌else◌, slice_get, is_some}
+use Rattle.std.specs.List.{AllByRecursion, IsDistinct, list_any, count_by}
+use Rattle.std.proofs.lemmas.Bool.{cases_Bool, cases_lt, both_ways, false≢true, lt-ltb, le-ltb, ltb-true, eqb-true, eq-eqb, ne_eqb, or_cases, or_left, or_right, cond-true, cond-false, cond_both}
+use Rattle.std.proofs.lemmas.Cmp.{nat_eq_equiv}
 use Rattle.std.proofs.lemmas.List.Sums.{sum_by-cons}
+use Rattle.std.proofs.lemmas.Map.Made.{length-from_same_keys}
 use Rattle.std.proofs.lemmas.Nat.{pow_pos, div-add-mod', div_below}
 use Rattle.std.proofs.lemmas.Option.{none-some, same_Some, slice_get_within}
 use Rattle.hm_base.specs.Slots.{Kept, place, slot_of, has_live, live_stage}
 use Rattle.hm_dirtyset.specs.declared.slot.Slot.{Slot}
 use Rattle.hm_dirtyset.specs.Table.{slot_index, kept_of, kept_in, slots_in, number_in, number_of, held_slots, Table, AreDistinct, CountsLive}
-use Rattle.hm_dirtyset.specs.Fields.{IsSingle, IsPlaced}
+use Rattle.hm_dirtyset.specs.declared.dirty_set.DirtySet.TheInside.{Inside}
+use Rattle.hm_dirtyset.specs.ByNumber.{number_at, filled_count}
+use Rattle.hm_dirtyset.specs.Fields.{table_of, IsSingle, IsPlaced, IsSound}
 use Rattle.hm_dirtyset.proofs.Stages.{IsFirst, first_found}
 use Rattle.hm_dirtyset.proofs.Looks.{kept_here, kept_live}
 use Rattle.hm_dirtyset.proofs.Lives.{IsHeld, held_parts, held_from, live_number_some}
@@ -191,3 +195,40 @@ census table len placed single = record {
     ]
   ];
 }
+
+-- ---- the counter
+
+lt_same : (point n : ℕ) → (0 < n → point < n) → nat_lt point n ≡ nat_lt 0 n
+lt_same point n live = elim (cases_lt 0 n) [
+  | inl some ↦ lt-ltb point n (live some) ∙ sym (lt-ltb 0 n some)
+  | inr none ↦ le-ltb point n (omega arith) ∙ sym (le-ltb 0 n none)
+]
+
+count_live : (point : ℕ) (held : List Slot) → ((at : ℕ) → 0 < number_at held at → point < number_at held at) → count_by (λ (slot : Slot). nat_lt point slot.number) held ≡ filled_count held
+count_live point [] live = refl
+count_live point (slot ∷ slots) live =
+    sum_by-cons (λ (s : Slot). cond (nat_lt point s.number) 1 0) slot slots
+    ∙ ap (λ (b : Bool). cond b 1 0 + count_by (λ (s : Slot). nat_lt point s.number) slots) (lt_same point slot.number (live 0))
+    ∙ ap (λ (n : ℕ). cond (nat_lt 0 slot.number) 1 0 + n) (count_live point slots (λ at. live (suc at)))
+    ∙ sym (sum_by-cons (λ (s : Slot). cond (nat_lt 0 s.number) 1 0) slot slots)
+
+pub counts_live : (s : Inside) → IsSound s → CountsLive (table_of s) s.live
+counts_live s sound =
+    subst (λ (n : ℕ). CountsLive (table_of s) n) (count_live s.point s.slots.items sound.live ∙ sym sound.counted) (census (table_of s) sound.slots sound.placed sound.single)
+
+-- no two counts are true
+distinct_by_test : (xs : List ℕ) → AreDistinct xs → IsDistinct nat_eq xs
+unfolding IsDistinct
+distinct_by_test [] h = tt
+distinct_by_test (x ∷ xs) h = (apart_by_test x xs h.0, distinct_by_test xs h.1)
+  where
+    apart_by_test : (x : ℕ) (xs : List ℕ) → AllByRecursion (λ y. x ≢ y) xs → AllByRecursion (λ y. nat_eq x y ≡ false) xs
+    apart_by_test x [] h = tt
+    apart_by_test x (y ∷ ys) h = (ne_eqb x y h.0, apart_by_test x ys h.1)
+
+pub counts_once : (table : Table) (m n : ℕ) → CountsLive table m → CountsLive table n → m ≡ n
+counts_once table m n a b =
+    let turned : (q : ℕ) (xs : List ℕ) → list_any (λ other. nat_eq q other) xs ≡ list_any (λ other. other == q) xs = λ q xs.
+    let same : (λ (other : ℕ). nat_eq q other) ≡ (λ (other : ℕ). other == q) = λ i other. nat_eq_equiv.symm q other i in ap (λ (p : ℕ → Bool). list_any p xs) same in
+    sym a.many ∙ length-from_same_keys nat_eq_equiv a.objects b.objects (distinct_by_test a.objects a.distinct) (distinct_by_test b.objects b.distinct)
+    (λ q. turned q a.objects ∙ a.live q ∙ sym (b.live q) ∙ sym (turned q b.objects)) ∙ b.many

@@ -8,3 +8,6 @@ mod Writes
 mod Puts
 mod Census
 mod LiveSlots
+mod InOrder
+mod Filled
+mod Cleans

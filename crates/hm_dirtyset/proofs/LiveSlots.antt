@@ -1,5 +1,5 @@
 -- What is not live in the slots has no part in where a write goes.
-use Rattle.std.proofs.Common.{◌≡◌, ℕ, ◌<◌, ◌≤◌, Bool, true, false, Option, Some, None, refl, sym, ap, ◌∙◌, arith, inl, inr}
+use Rattle.std.proofs.Common.{◌≡◌, ℕ, ◌<◌, ◌≤◌, Bool, true, Option, Some, None, refl, sym, ap, ◌∙◌, arith, inl, inr}
 use Rattle.std.specs.Prelude.{not, ◌&&◌, ◌==◌, nat_lt, if◌then◌else◌}
 use Rattle.std.proofs.lemmas.Bool.{cases_lt, cond-true, cond-false, cond_both, false≢true, lt-ltb, le-ltb}
 use Rattle.hm_base.specs.Slots.{Kept, Slots, place, is_live, is_of, is_taken, has_live, live_part, live_slots, slots_raised, first_stage, live_stage, free_stage, or_else, target, with_kept, put_in, put}
@@ -14,9 +14,12 @@ part_own point object (Some kept) =
     cond_both (nat_lt point kept.number) (Some kept) None (λ (x : Option Kept). (is_live point x && is_of object x) ≡ (nat_lt point kept.number && (kept.object == object))) (λ t. refl)
     (λ f. sym (ap (λ (b : Bool). b && (kept.object == object)) f))
 
+pub own_live : (slots : Slots) (point object : ℕ) → has_live (live_slots point slots) point object ≡ has_live slots point object
+own_live slots point object = λ i s. part_own point object (slots.kept s (place slots.bits s object)) i
+
 pub target_live : (slots : Slots) (point object : ℕ) → target (live_slots point slots) point object ≡ target slots point object
 target_live slots point object =
-    let own : has_live (live_slots point slots) point object ≡ has_live slots point object = λ i s. part_own point object (slots.kept s (place slots.bits s object)) i in
+    let own : has_live (live_slots point slots) point object ≡ has_live slots point object = own_live slots point object in
     let taken : is_taken (live_slots point slots) point object ≡ is_taken slots point object = λ i s. part_live point (slots.kept s (place slots.bits s object)) i in
     ap (λ (p : ℕ → Bool). or_else (first_stage p 0 slots.stages) (free_stage (live_slots point slots) point object)) own
     ∙ ap (λ (p : ℕ → Bool). or_else (live_stage slots point object) (first_stage (λ s. not (p s)) 0 slots.stages)) taken
@@ -38,7 +41,7 @@ put_live slots point object number above =
     put_in_live slots point (record { object = object; number = number }) (target slots point object) above
     ∙ ap (λ (t : Option ℕ). put_in (live_slots point slots) (record { object = object; number = number }) t) (sym (target_live slots point object))
 
-part_later : (before after : ℕ) (kept : Option Kept) → before ≤ after → live_part after kept ≡ live_part after (live_part before kept)
+pub part_later : (before after : ℕ) (kept : Option Kept) → before ≤ after → live_part after kept ≡ live_part after (live_part before kept)
 part_later before after None le = refl
 part_later before after (Some kept) le =
     cond_both (nat_lt before kept.number) (Some kept) None (λ (x : Option Kept). live_part after (Some kept) ≡ live_part after x) (λ t. refl)

@@ -1,15 +1,20 @@
 -- A dirty set's fields after a write.
-use Rattle.std.proofs.Common.{◌≡◌, ℕ, ◌*◌, ◌^◌, ◌<◌, ◌≤◌, List, set, Option, Some, sym, ap, ◌∙◌, subst, arith}
-use Rattle.std.specs.Prelude.{◌==◌, if◌then◌else◌, is_none}
+use Rattle.std.proofs.Common.{◌≡◌, ◌≢◌, ℕ, ◌+◌, ◌*◌, ◌^◌, ◌<◌, ◌≤◌, Bool, true, false, cond, List, [], ◌∷◌, ◌++◌, length, set, Option, Some, sym, ap, ◌∙◌, subst, inl, inr, arith}
+use Rattle.std.specs.Prelude.{◌==◌, nat_lt, if◌then◌else◌, is_none}
+use Rattle.std.proofs.lemmas.Bool.{cases_eq, lt-ltb}
 use Rattle.hm_base.specs.Slots.{Slots, place, target, is_full, put, put_in}
+use Rattle.hm_links.specs.Linked.{is_linked, others}
 use Rattle.hm_dirtyset.specs.declared.slot.Slot.{Slot}
 use Rattle.hm_dirtyset.specs.declared.dirty_set.DirtySet.TheInside.{Inside}
 use Rattle.hm_dirtyset.specs.Table.{Table, slot_index, slots_in, slots_of, number_of}
+use Rattle.hm_dirtyset.specs.ByNumber.{IsByNumber, number_at, filled_count}
 use Rattle.hm_dirtyset.specs.Fields.{table_of, IsSingle, IsPlaced, IsSound}
 use Rattle.hm_dirtyset.proofs.LiveSlots.{target_live}
 use Rattle.hm_dirtyset.proofs.Shapes.{index_within}
 use Rattle.hm_dirtyset.proofs.Lives.{IsTarget, target_is, put_at, number_put, single_put, placed_put}
 use Rattle.hm_dirtyset.proofs.Writes.{written}
+use Rattle.hm_dirtyset.proofs.InOrder.{renewed}
+use Rattle.hm_dirtyset.proofs.Filled.{number-set_same, number-set_other, count-set}
 
 abbrev pub slots_before : Inside → Slots
 slots_before s = slots_in s.stages s.bits s.slots.items
@@ -61,6 +66,44 @@ pub wrote_placed : (s : Inside) (object number stage at : ℕ) → IsSound s →
     → IsPlaced (slots_in s.stages s.bits (set s.slots.items at (record { object = object; number = number })))
 wrote_placed s object number stage at sound chosen above =
     subst IsPlaced (sym (wrote s object number stage at sound chosen above)) (placed_put (slots_before s) object number stage sound.placed)
+
+-- the list and the count after it
+pub record IsRenewed (s : Inside) (held : List Slot) (items : List ℕ) (count number : ℕ) : Type 0 where
+  pub listed : IsByNumber held items
+  pub counted : count ≡ filled_count held
+  pub live : (at : ℕ) → 0 < number_at held at → s.point < number_at held at
+  pub newest : (at : ℕ) → number_at held at ≤ number
+
+one_counted : (linked : Bool) (live count : ℕ) → count + cond linked 1 0 ≡ live + 1 → (if linked then live else live + 1) ≡ count
+one_counted true live count e = omega arith
+one_counted false live count e = omega arith
+
+pub wrote_renewed : (s : Inside) (object number stage at live : ℕ) (items : List ℕ) → IsSound s → IsChosen s object stage at → s.point < number → s.greatest < number
+    → items ≡ others at s.by_number.items ++ at ∷ [] → live ≡ (if is_linked at s.by_number.items then s.live else s.live + 1)
+    → IsRenewed s (set s.slots.items at (record { object = object; number = number })) items live number
+wrote_renewed s object number stage at live items sound chosen above newer items_is live_is =
+    let slot : Slot = record { object = object; number = number } in
+    let held : List Slot = set s.slots.items at slot in
+    let inside : at < length s.slots.items = subst (λ (n : ℕ). at < n) (sym sound.slots) (chosen_within s object stage at sound chosen) in
+    let here : number_at held at ≡ number = number-set_same s.slots.items at slot inside in
+    let there : (k : ℕ) → k ≢ at → number_at held k ≡ number_at s.slots.items k = λ k other. number-set_other s.slots.items at k slot other in
+    record {
+      listed = subst (λ (l : List ℕ). IsByNumber held l) (sym items_is) (renewed (number_at s.slots.items) (number_at held) at s.by_number.items sound.listed (λ k. omega (arith, sound.newest k, here)) there);
+      counted =
+          let some : cond {A = ℕ} (nat_lt 0 number) 1 0 ≡ 1 = ap (λ b. cond {A = ℕ} b 1 0) (lt-ltb 0 number (omega arith)) in
+          let counts : filled_count held + cond (nat_lt 0 (number_at s.slots.items at)) 1 0 ≡ filled_count s.slots.items + cond (nat_lt 0 number) 1 0 = count-set s.slots.items at slot inside in
+          let linked : filled_count held + cond (is_linked at s.by_number.items) 1 0 ≡ s.live + 1 =
+          ap (λ b. filled_count held + cond {A = ℕ} b 1 0) (sound.listed.linked at) ∙ counts ∙ ap (λ n. filled_count s.slots.items + n) some ∙ ap (λ n. n + 1) (sym sound.counted) in
+          live_is ∙ one_counted (is_linked at s.by_number.items) s.live (filled_count held) linked;
+      live = λ k some. elim (cases_eq k at) [
+        | inl same ↦ let is : number_at held k ≡ number = ap (number_at held) same ∙ here in omega arith
+        | inr other ↦ let before : 0 < number_at s.slots.items k → s.point < number_at s.slots.items k = sound.live k in let is : number_at held k ≡ number_at s.slots.items k = there k other in omega arith
+      ];
+      newest = λ k. elim (cases_eq k at) [
+        | inl same ↦ let is : number_at held k ≡ number = ap (number_at held) same ∙ here in omega arith
+        | inr other ↦ let is : number_at held k ≡ number_at s.slots.items k = there k other in omega (arith, sound.newest k)
+      ];
+    }
 
 -- by what was read of the slots
 pub chosen_from : (s : Inside) (read : List Slot) (found : Option ℕ) (object stage at : ℕ) → read ≡ s.slots.items → found ≡ target (slots_in s.stages s.bits read) s.point object → found ≡ Some stage

@@ -12,12 +12,12 @@ use Rattle.hm_dirtyset.proofs.Shapes.{index_within, same_stage, same_place}
 use Rattle.hm_dirtyset.proofs.Looks.{kept_here, kept_live}
 use Rattle.hm_dirtyset.proofs.Lives.{put_at}
 
-set_there : {A : Type 0} (xs : List A) (i : ℕ) (x : A) → i < length xs → slice_get (set xs i x) i ≡ Some x
+pub set_there : {A : Type 0} (xs : List A) (i : ℕ) (x : A) → i < length xs → slice_get (set xs i x) i ≡ Some x
 set_there [] i x within = absurd (omega arith)
 set_there (y ∷ xs) zero x within = refl
 set_there (y ∷ xs) (suc i) x within = set_there xs i x (omega arith)
 
-set_elsewhere : {A : Type 0} (xs : List A) (i j : ℕ) (x : A) → j ≢ i → slice_get (set xs i x) j ≡ slice_get xs j
+pub set_elsewhere : {A : Type 0} (xs : List A) (i j : ℕ) (x : A) → j ≢ i → slice_get (set xs i x) j ≡ slice_get xs j
 set_elsewhere [] i j x ne = refl
 set_elsewhere (y ∷ xs) zero zero x ne = absurd (ne refl)
 set_elsewhere (y ∷ xs) zero (suc j) x ne = refl

@@ -3,6 +3,7 @@ use Rattle.std.specs.Prelude.{◌≡◌, ℕ, ◌*◌, ◌^◌, ◌<◌, ◌≤�
 use Rattle.hm_base.specs.Slots.{Kept, Slots, place, has_live}
 use Rattle.hm_dirtyset.specs.declared.dirty_set.DirtySet.TheInside.{Inside}
 use Rattle.hm_dirtyset.specs.Table.{Table, slots_in}
+use Rattle.hm_dirtyset.specs.ByNumber.{IsByNumber, number_at, filled_count}
 
 abbrev pub table_of : Inside → Table
 table_of d = record { stages = d.stages; bits = d.bits; held = d.slots.items; point = d.point; greatest = d.greatest }
@@ -20,6 +21,11 @@ pub record IsSound (d : Inside) : Type 0 where
   pub few : d.stages ≤ 4
   pub bits : d.bits ≤ 12
   pub slots : length d.slots.items ≡ d.stages * 2 ^ d.bits
-  pub linked : d.by_number.cells ≡ d.stages * 2 ^ d.bits
+  pub cells : d.by_number.cells ≡ d.stages * 2 ^ d.bits
+  pub listed : IsByNumber d.slots.items d.by_number.items
+  pub counted : d.live ≡ filled_count d.slots.items
+  -- what a slot holds is live, and no number is above the greatest
+  pub live : (at : ℕ) → 0 < number_at d.slots.items at → d.point < number_at d.slots.items at
+  pub newest : (at : ℕ) → number_at d.slots.items at ≤ d.greatest
   pub single : IsSingle (slots_in d.stages d.bits d.slots.items) d.point
   pub placed : IsPlaced (slots_in d.stages d.bits d.slots.items)

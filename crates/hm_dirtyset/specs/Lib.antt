@@ -1,3 +1,4 @@
 pub mod Table
 pub mod Finds
+pub mod ByNumber
 pub mod Fields

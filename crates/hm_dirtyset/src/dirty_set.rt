@@ -1,10 +1,10 @@
-ghost use Rattle.std.specs.Prelude.{◌≡◌, ◌<◌, ◌≤◌, ◌↔◌, ◌⊎◌, ◌++◌, ◌==◌, ◌∷◌, [], ℕ, false, if◌then◌else◌, nat_lt, length, slice_get, Some, None, IsOk, IfOk, OnOk, OnErr, IfErr};
-ghost use Rattle.std.specs.List.{count_by};
+ghost use Rattle.std.specs.Prelude.{◌≡◌, ◌<◌, ◌≤◌, ◌↔◌, ◌⊎◌, ◌+◌, ◌-◌, ◌^◌, ◌++◌, ◌==◌, ◌∷◌, [], ℕ, false, if◌then◌else◌, length, slice_get, Some, None, IsOk, IfOk, OnOk, OnErr, IfErr};
 ghost use Rattle.hm_base.specs.Slots as rule;
 ghost use Rattle.hm_base.specs.StepCounts.{TakesAtMost};
-ghost use Rattle.hm_links.specs.Linked.{others};
+ghost use Rattle.hm_links.specs.Linked.{is_linked, others};
 ghost use Rattle.hm_dirtyset.specs.Table.{kept_of, slots_of, live_number, number_above, open_fault, IsCrowd, CountsLive};
 
+use crate::emptying::empty_reached;
 use crate::find::{Found, find, target};
 use crate::places::{slot_count, slot_of};
 use crate::slot::Slot;
@@ -25,9 +25,8 @@ pub const MAX_BITS: u8 = 12;
 /// 2^0 to 2^12 slots; an object has one slot in each stage. All memory is taken at opening. Contracts see the slots,
 /// the point and the greatest number put.
 ///
-/// A slot keeps what it held when that falls to the point or below, until it is taken again; it is no slot to the
-/// contracts then. `by_number` is to link the slots that hold anything in the order of their numbers: nothing reads it,
-/// and nothing is claimed of it but how many cells it has.
+/// A slot holds a live number or nothing. `by_number` links the slots that hold one, by rising number, and `live` is how
+/// many they are.
 #[derive(Drop)]
 pub struct DirtySet {
     slots: Vec<Slot>,
@@ -36,6 +35,7 @@ pub struct DirtySet {
     point: u64,
     greatest: u64,
     by_number: Links,
+    live: u32,
 }
 
 /// Why a dirty set can't be opened.
@@ -112,6 +112,7 @@ impl DirtySet {
             point: 0,
             greatest: 0,
             by_number: Links::open(alloc, count)?,
+            live: 0,
         })
     }
 
@@ -153,29 +154,37 @@ impl DirtySet {
         };
         let at = slot_of(self.bits, stage, object);
         self.slots[at as usize] = Slot { object, number };
-        move_back(&mut self.by_number, at);
+        move_back(&mut self.by_number, &mut self.live, at);
         self.greatest = number;
         Ok(())
     }
 
-    /// Raises the point: numbers at or below it are live no more.
-    pub fn clean_to<L: StepLedger>(&mut self, point: u64, _steps: &mut Steps<L>)
+    /// Raises the point: numbers at or below it are live no more. It counts at most one step for each number that goes, and
+    /// one more; a step is counted at each look at a slot.
+    pub fn clean_to<L: StepLedger>(&mut self, point: u64, steps: &mut Steps<L>)
         requires { self.old.point ≤ point }
         ensures numbers { (o : ℕ) → live_number self.new o ≡ number_above point (live_number self.old o) }
         ensures slots { slots_of self.new ≡ rule.slots_raised self.old.point point (slots_of self.old) }
         ensures stages { self.new.stages ≡ self.old.stages }
         ensures point { self.new.point ≡ point }
         ensures greatest { self.new.greatest ≡ self.old.greatest }
-        ensures steps { TakesAtMost L.counts _steps.old _steps.new 0 }
+        ensures steps { (before after : ℕ) → CountsLive self.old before → CountsLive self.new after → TakesAtMost L.counts steps.old steps.new (before - after + 1) }
     {
+        empty_reached(
+            &mut self.slots,
+            &mut self.by_number,
+            &mut self.live,
+            point,
+            steps,
+        );
         self.point = point;
     }
 
-    /// How many objects have a live number. It walks over all slots.
+    /// How many objects have a live number.
     pub fn live(&self) -> u32
         ensures { CountsLive self.now result }
     {
-        live_slots(&self.slots, self.point)
+        self.live
     }
 
     /// The number at and below which no number is live.
@@ -193,24 +202,20 @@ impl DirtySet {
     }
 }
 
-/// Puts an index behind the others, in the list or not.
-fn move_back(links: &mut Links, i: u32)
-    requires { i < links.old.cells }
+/// Puts a slot behind the others, and counts it where it wasn't in the list.
+fn move_back(links: &mut Links, live: &mut u32, i: u32)
+    requires within { i < links.old.cells }
+    requires room { live.old + 1 < 2 ^ 32 }
     ensures items { links.new.items ≡ others i links.old.items ++ i ∷ [] }
     ensures cells { links.new.cells ≡ links.old.cells }
+    ensures live { live.new ≡ (if is_linked i links.old.items then live.old else live.old + 1) }
 {
     if links.contains(i) {
         links.unlink(i);
+    } else {
+        *live += 1;
     }
     links.push_back(i);
-}
-
-/// How many slots hold a number above the point.
-fn live_slots(slots: &[Slot], point: u64) -> u32
-    requires { length slots.now ≤ 16384 }
-    ensures { result ≡ count_by (λ slot. nat_lt point slot.number) slots.now }
-{
-    slots.iter().filter(|slot| slot.number > point).count() as u32
 }
 
 /// Slots that hold nothing.
@@ -218,10 +223,6 @@ fn unused_slots(alloc: Global, count: u32) -> Result<Vec<Slot>, AllocError>
     ensures count { IfOk result (λ v. length v.items ≡ count) }
     ensures nothing { IfOk result (λ v. (i : ℕ) → kept_of (slice_get v.items i) ≡ None) }
 {
-    let unused = Slot {
-        object: 0,
-        number: 0,
-    };
-    let slots = vec![in alloc; unused; count as usize]?;
+    let slots = vec![in alloc; Slot::FREE; count as usize]?;
     Ok(slots)
 }

@@ -17,9 +17,8 @@ pub enum Found {
     Full,
 }
 
-/// One look at a slot, which counts as a step. An object's slots are looked at in no other way; `live` alone walks over
-/// all of them.
-fn look<L: StepLedger>(slots: &[Slot], at: u32, steps: &mut Steps<L>) -> Slot
+/// One look at a slot, found by an object's place or by a link, which counts as a step. Slots are looked at in no other way.
+pub fn look<L: StepLedger>(slots: &[Slot], at: u32, steps: &mut Steps<L>) -> Slot
     requires { at < length slots.now }
     ensures slot { slice_get slots.now at ≡ Some result }
     ensures steps { TakesAtMost L.counts steps.old steps.new 1 }

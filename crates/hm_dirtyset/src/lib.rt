@@ -2,6 +2,7 @@
 #![tactic(auto)]
 
 pub mod dirty_set;
+mod emptying;
 mod find;
 mod places;
 pub mod slot;

@@ -13,19 +13,23 @@ fn opens_within_its_ranges(rt: HostRuntime) {
 
 #[test]
 fn keeps_the_numbers_above_the_point(rt: HostRuntime) -> Result<(), Fail> {
-    let mut steps: Steps<Counted> = Steps::new();
     let mut set = DirtySet::open(rt.alloc(), 2, 0).map_err(|_| "memory")?;
-    assert!(rt; set.put(5, 1).is_ok() && set.put(6, 2).is_ok());
-    assert_eq!(rt; set.put(7, 3), Err(Full));
-    assert!(rt; set.put(5, 3).is_ok());
-    assert_eq!(rt; set.get(5, &mut steps), Some(3));
-    assert_eq!(rt; set.greatest(), 3);
+    assert!(rt; set.put(5, 1).is_ok() && set.put(6, 2).is_ok() && set.put(5, 3).is_ok());
+    let mut steps: Steps<Counted> = Steps::new();
+    set.clean_to(1, &mut steps);
+    assert!(rt; steps.shown() <= 1);
     assert_eq!(rt; set.live(), 2);
+    let mut steps: Steps<Counted> = Steps::new();
     set.clean_to(2, &mut steps);
-    assert_eq!(rt; set.get(6, &mut steps), None);
+    assert!(rt; steps.shown() <= 2);
     assert_eq!(rt; set.live(), 1);
+    let mut steps: Steps<Counted> = Steps::new();
+    assert_eq!(rt; set.get(5, &mut steps), Some(3));
+    assert_eq!(rt; set.get(6, &mut steps), None);
     assert_eq!(rt; steps.shown(), 3);
     assert!(rt; set.put(7, 4).is_ok());
+    assert_eq!(rt; set.put(8, 5), Err(Full));
+    assert_eq!(rt; set.greatest(), 4);
     assert_eq!(rt; set.point(), 2);
     Ok(())
 }

@@ -1,13 +1,16 @@
-use Rattle.std.proofs.Common.{◌≡◌, ◌<◌, ◌*◌, ◌^◌, ℕ, List, length, Some, None, refl, sym, ap, ◌∙◌, subst, arith, rules, length-set}
+use Rattle.std.proofs.Common.{◌≡◌, ◌<◌, ◌*◌, ◌^◌, ℕ, ◌≤◌, List, set, length, Some, None, refl, sym, ap, ◌∙◌, subst, arith, rules, length-set}
 use Rattle.std.specs.Prelude.{◌==◌, if◌then◌else◌}
 use Rattle.std.proofs.lemmas.Bool.{false≢true}
 use Rattle.hm_base.specs.Slots.{target, live_slots, put}
 use Rattle.hm_dirtyset.specs.declared.slot.Slot.{Slot}
 use Rattle.hm_dirtyset.specs.Table.{Table, slots_in, slots_of, live_number, IsCrowd}
+use Rattle.hm_dirtyset.specs.ByNumber.{filled_count}
 use Rattle.hm_dirtyset.specs.Fields.{table_of}
+use Rattle.hm_dirtyset.proofs.Shapes.{cells_few}
+use Rattle.hm_dirtyset.proofs.Filled.{count_few}
 use Rattle.hm_dirtyset.proofs.Lives.{crowd, target_none}
 use Rattle.hm_dirtyset.proofs.LiveSlots.{put_live}
-use Rattle.hm_dirtyset.proofs.Puts.{IsChosen, chosen_from, slots_before, full_is, chosen_few, chosen_within, wrote_put, wrote_number, wrote_single, wrote_placed}
+use Rattle.hm_dirtyset.proofs.Puts.{IsChosen, IsRenewed, wrote_renewed, chosen_from, slots_before, full_is, chosen_few, chosen_within, wrote_put, wrote_number, wrote_single, wrote_placed}
 use Rattle.hm_dirtyset.proofs.dirty_set.DirtySet.put.Goals as goal
 
 pub returns-in_default-clause-room : goal.returns-in_default-clause-room
@@ -43,11 +46,20 @@ index_mut-requires c =
     let all : length s.slots.items ≡ s.stages * 2 ^ s.bits = c.self.invariant.slots in
     search rules
 
-pub move_back-requires : goal.move_back-requires
-move_back-requires c =
+pub move_back-requires-clause-within : goal.move_back-requires-clause-within
+move_back-requires-clause-within c =
     let s = c.self.inside in
     let chosen : IsChosen s c.args.object c.in-Some.stage c.slot_of-at.result = chosen_from s c.deref.result.now c.target.result c.args.object c.in-Some.stage c.slot_of-at.result c.deref.ensures.value c.target.ensures c.in-Some.is c.slot_of-at.ensures.slot c.slot_of-at.ensures.within in
-    subst (λ (k : ℕ). c.slot_of-at.result < k) (sym c.self.invariant.linked) (chosen_within s c.args.object c.in-Some.stage c.slot_of-at.result c.self.invariant chosen)
+    subst (λ (k : ℕ). c.slot_of-at.result < k) (sym c.self.invariant.cells) (chosen_within s c.args.object c.in-Some.stage c.slot_of-at.result c.self.invariant chosen)
+
+pub move_back-requires-clause-room : goal.move_back-requires-clause-room
+move_back-requires-clause-room c =
+    let s = c.self.inside in
+    let h = c.self.invariant in
+    let counted : s.live ≡ filled_count s.slots.items = h.counted in
+    let few : filled_count s.slots.items ≤ length s.slots.items = count_few s.slots.items in
+    let all : length s.slots.items ≡ s.stages * 2 ^ s.bits = h.slots in
+    omega (arith, cells_few s.stages s.bits h.few h.bits)
 
 -- after the write
 chosen : (c : goal.After-self-2-1) → IsChosen c.self.inside c.args.object c.in-Some.stage c.slot_of-at.result
@@ -56,16 +68,25 @@ chosen c = chosen_from c.self.inside c.deref.result.now c.target.result c.args.o
 above : (c : goal.After-self-2-1) → c.self.inside.point < c.args.number
 above c = let point : c.self.inside.point ≡ c.args.self.now.point = ap (λ (t : Table). t.point) c.self.view_is in omega (arith, point, c.requires.above_point)
 
+newer : (c : goal.After-self-2-1) → c.self.inside.greatest < c.args.number
+newer c = let greatest : c.self.inside.greatest ≡ c.args.self.now.greatest = ap (λ (t : Table). t.greatest) c.self.view_is in omega (arith, greatest, c.requires.above_greatest)
+
 pub invariant_of-self : goal.invariant_of-self
 invariant_of-self c =
     let s = c.self.inside in
     let h = c.self.invariant in
+    let renewed : IsRenewed s (set s.slots.items c.slot_of-at.result (record { object = c.args.object; number = c.args.number })) c.move_back.new.links.items c.move_back.new.live c.args.number =
+    wrote_renewed s c.args.object c.args.number c.in-Some.stage c.slot_of-at.result c.move_back.new.live c.move_back.new.links.items h (chosen c) (above c) (newer c) c.move_back.ensures.items c.move_back.ensures.live in
     record {
       some = h.some;
       few = h.few;
       bits = h.bits;
       slots = length-set s.slots.items c.slot_of-at.result (record { object = c.args.object; number = c.args.number }) ∙ h.slots;
-      linked = c.move_back.ensures.cells ∙ h.linked;
+      cells = c.move_back.ensures.cells ∙ h.cells;
+      listed = renewed.listed;
+      counted = renewed.counted;
+      live = renewed.live;
+      newest = renewed.newest;
       single = wrote_single s c.args.object c.args.number c.in-Some.stage c.slot_of-at.result h (chosen c) (above c);
       placed = wrote_placed s c.args.object c.args.number c.in-Some.stage c.slot_of-at.result h (chosen c) (above c);
     }
