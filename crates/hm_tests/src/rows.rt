@@ -574,6 +574,7 @@ const BARS: Row = Row {
 remove 0
 stop 0
 remove 0
+timeout 0
 tick 0
 deliver 1
 stop 6
@@ -586,15 +587,16 @@ write 7 1 61 1
     text: b"event 1 barred Live
 event 2 ok
 event 3 barred Last
-event 4 barred Stopped
-event 5 barred NoPacket
-event 6 barred Member
-event 7 barred Idle
-event 8 barred NoSwitch
-event 9 ok
+event 4 barred NotVr
+event 5 barred Stopped
+event 6 barred NoPacket
+event 7 barred Member
+event 8 barred Idle
+event 9 barred NoSwitch
+event 10 ok
 invoke 7.1
 packet 1 c7 s1 write 1 1 61
-event 10 barred Busy
+event 11 barred Busy
 order 0
 end
 ",
