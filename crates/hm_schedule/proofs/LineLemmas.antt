@@ -83,6 +83,8 @@ keyword_len keyword.Tick = lit≤ tt
 keyword_len keyword.Stop = lit≤ tt
 keyword_len keyword.Remove = lit≤ tt
 keyword_len keyword.Timeout = lit≤ tt
+keyword_len keyword.Retire = lit≤ tt
+keyword_len keyword.Start = lit≤ tt
 
 short_keyword : (k : Keyword) → IsShortWord (keyword_text k)
 short_keyword k = record { seen = visible_keyword k; short = keyword_len k }
@@ -101,6 +103,8 @@ short_event (event.Tick replica) lawful = (short_number replica (omega (arith, l
 short_event (event.Stop replica) lawful = (short_number replica (omega (arith, lawful)), tt)
 short_event (event.Remove replica) lawful = (short_number replica (omega (arith, lawful)), tt)
 short_event (event.Timeout replica) lawful = (short_number replica (omega (arith, lawful)), tt)
+short_event event.Retire lawful = tt
+short_event event.Start lawful = tt
 
 short_chain : IsShortWord (codes "chain")
 short_chain = record { seen = All-from_recursion IsVisible (codes "chain") (lit< tt, (lit< tt, (lit< tt, (lit< tt, (lit< tt, tt))))); short = lit≤ tt }
@@ -138,6 +142,8 @@ few_fields (line.Event (event.Tick replica)) = lit≤ tt
 few_fields (line.Event (event.Stop replica)) = lit≤ tt
 few_fields (line.Event (event.Remove replica)) = lit≤ tt
 few_fields (line.Event (event.Timeout replica)) = lit≤ tt
+few_fields (line.Event event.Retire) = lit≤ tt
+few_fields (line.Event event.Start) = lit≤ tt
 
 short_words : (l : Line) → IsLawful l → AreShort (line_words l)
 short_words l lawful = (short_keyword (keyword_in l), short_fields l lawful)

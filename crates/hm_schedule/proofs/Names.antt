@@ -46,6 +46,8 @@ named_keyword keyword.Tick = refl
 named_keyword keyword.Stop = refl
 named_keyword keyword.Remove = refl
 named_keyword keyword.Timeout = refl
+named_keyword keyword.Retire = refl
+named_keyword keyword.Start = refl
 
 -- a word that is named by a keyword is its text
 module _ (word : List ℕ) (k : Keyword) where
@@ -65,10 +67,12 @@ module _ (word : List ℕ) (k : Keyword) where
       (one_of (codes "stop") keyword.Stop (bytes_eq word (codes "stop")) _ refl refl
       (one_of (codes "remove") keyword.Remove (bytes_eq word (codes "remove")) _ refl refl
       (one_of (codes "timeout") keyword.Timeout (bytes_eq word (codes "timeout")) _ refl refl
+      (one_of (codes "retire") keyword.Retire (bytes_eq word (codes "retire")) _ refl refl
+      (one_of (codes "start") keyword.Start (bytes_eq word (codes "start")) _ refl refl
       (one_of (codes "group") keyword.Group (bytes_eq word (codes "group")) _ refl refl
       (one_of (codes "table") keyword.Table (bytes_eq word (codes "table")) _ refl refl
       (one_of (codes "life") keyword.Life (bytes_eq word (codes "life")) _ refl refl
-      (one_of (codes "log") keyword.Log (bytes_eq word (codes "log")) _ refl refl none_of)))))))
+      (one_of (codes "log") keyword.Log (bytes_eq word (codes "log")) _ refl refl none_of)))))))))
 
   pub spells : Spells (named word)
   spells =
@@ -99,6 +103,8 @@ visible_keyword keyword.Tick = letters (codes "tick") (lit< tt, (lit< tt, (lit< 
 visible_keyword keyword.Stop = letters (codes "stop") (lit< tt, (lit< tt, (lit< tt, (lit< tt, tt))))
 visible_keyword keyword.Remove = letters (codes "remove") (lit< tt, (lit< tt, (lit< tt, (lit< tt, (lit< tt, (lit< tt, tt))))))
 visible_keyword keyword.Timeout = letters (codes "timeout") (lit< tt, (lit< tt, (lit< tt, (lit< tt, (lit< tt, (lit< tt, (lit< tt, tt)))))))
+visible_keyword keyword.Retire = letters (codes "retire") (lit< tt, (lit< tt, (lit< tt, (lit< tt, (lit< tt, (lit< tt, tt))))))
+visible_keyword keyword.Start = letters (codes "start") (lit< tt, (lit< tt, (lit< tt, (lit< tt, (lit< tt, tt)))))
 
 spaced_ends : (words : List (List ℕ)) → IsWordEnd (spaced words)
 spaced_ends [] = tt

@@ -70,6 +70,8 @@ after_is_behind stage (line.Event (event.Tick replica)) = refl
 after_is_behind stage (line.Event (event.Stop replica)) = refl
 after_is_behind stage (line.Event (event.Remove replica)) = refl
 after_is_behind stage (line.Event (event.Timeout replica)) = refl
+after_is_behind stage (line.Event event.Retire) = refl
+after_is_behind stage (line.Event event.Start) = refl
 
 behind_is_fresh : (stage : Stage) (k : Keyword) → behind stage k ≢ Stage.Fresh
 behind_is_fresh stage keyword.Group same = cc
@@ -86,6 +88,8 @@ behind_is_fresh stage keyword.Tick same = cc
 behind_is_fresh stage keyword.Stop same = cc
 behind_is_fresh stage keyword.Remove same = cc
 behind_is_fresh stage keyword.Timeout same = cc
+behind_is_fresh stage keyword.Retire same = cc
+behind_is_fresh stage keyword.Start same = cc
 
 spaced_ends : (ws : List (List ℕ)) → IsWordEnd (spaced ws)
 spaced_ends [] = tt

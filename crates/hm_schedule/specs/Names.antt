@@ -20,6 +20,8 @@ keyword_text keyword.Tick = codes "tick"
 keyword_text keyword.Stop = codes "stop"
 keyword_text keyword.Remove = codes "remove"
 keyword_text keyword.Timeout = codes "timeout"
+keyword_text keyword.Retire = codes "retire"
+keyword_text keyword.Start = codes "start"
 
 abbrev pub rarely_named : List ℕ → Option Keyword
 rarely_named word =
@@ -27,6 +29,8 @@ rarely_named word =
     else if bytes_eq word (codes "stop") then Some keyword.Stop
     else if bytes_eq word (codes "remove") then Some keyword.Remove
     else if bytes_eq word (codes "timeout") then Some keyword.Timeout
+    else if bytes_eq word (codes "retire") then Some keyword.Retire
+    else if bytes_eq word (codes "start") then Some keyword.Start
     else if bytes_eq word (codes "group") then Some keyword.Group
     else if bytes_eq word (codes "table") then Some keyword.Table
     else if bytes_eq word (codes "life") then Some keyword.Life

@@ -23,6 +23,8 @@ event_keyword (event.Tick replica) = keyword.Tick
 event_keyword (event.Stop replica) = keyword.Stop
 event_keyword (event.Remove replica) = keyword.Remove
 event_keyword (event.Timeout replica) = keyword.Timeout
+event_keyword event.Retire = keyword.Retire
+event_keyword event.Start = keyword.Start
 
 abbrev pub event_fields : Event → List (List ℕ)
 event_fields (event.Write client object value switch) = decimal client ∷ decimal object ∷ value_text value ∷ decimal switch ∷ []
@@ -35,6 +37,8 @@ event_fields (event.Tick replica) = decimal replica ∷ []
 event_fields (event.Stop replica) = decimal replica ∷ []
 event_fields (event.Remove replica) = decimal replica ∷ []
 event_fields (event.Timeout replica) = decimal replica ∷ []
+event_fields event.Retire = []
+event_fields event.Start = []
 
 abbrev pub keyword_in : Line → Keyword
 keyword_in (line.Group kind size) = keyword.Group
@@ -85,6 +89,8 @@ IsLawfulEvent (event.Tick replica) = replica ≤ 6
 IsLawfulEvent (event.Stop replica) = replica ≤ 6
 IsLawfulEvent (event.Remove replica) = replica ≤ 6
 IsLawfulEvent (event.Timeout replica) = replica ≤ 6
+IsLawfulEvent event.Retire = Unit {0}
+IsLawfulEvent event.Start = Unit {0}
 
 -- a group of one to seven; one of Viewstamped Replication has an odd size
 abbrev pub IsLawfulGroup : GroupKind → ℕ → Type 0

@@ -18,3 +18,5 @@ event_of (event.Tick replica) = rule.Event.Tick replica
 event_of (event.Stop replica) = rule.Event.Stop replica
 event_of (event.Remove replica) = rule.Event.Remove replica
 event_of (event.Timeout replica) = rule.Event.Timeout replica
+event_of event.Retire = rule.Event.Retire
+event_of event.Start = rule.Event.Start

@@ -13,7 +13,7 @@ pub struct Setup {
     pub cap: u32,
 }
 
-/// What happens to the world. A replaced switch and bytes from outside have no event here before their machines are built.
+/// What happens to the world. Bytes from outside have no event here before their machine is built.
 #[derive(Clone, Copy, Debug, PartialEq, Eq)]
 pub enum Event {
     /// A client invokes a write and sends it to a switch.
@@ -58,4 +58,8 @@ pub enum Event {
     Timeout {
         replica: u8,
     },
+    /// The configuration service is told to replace the switch.
+    Retire,
+    /// The configuration service is told to start the next switch.
+    Start,
 }

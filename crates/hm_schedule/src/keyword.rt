@@ -18,6 +18,8 @@ pub enum Keyword {
     Stop,
     Remove,
     Timeout,
+    Retire,
+    Start,
 }
 
 /// The keyword that a word is. None exactly for any other word. Most lines of a schedule are the word that is compared first.
@@ -53,6 +55,10 @@ fn rare_keyword_of(word: &[u8]) -> Option<Keyword>
         Some(Keyword::Remove)
     } else if word == b"timeout".as_slice() {
         Some(Keyword::Timeout)
+    } else if word == b"retire".as_slice() {
+        Some(Keyword::Retire)
+    } else if word == b"start".as_slice() {
+        Some(Keyword::Start)
     } else if word == b"group".as_slice() {
         Some(Keyword::Group)
     } else if word == b"table".as_slice() {

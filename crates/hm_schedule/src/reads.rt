@@ -38,6 +38,8 @@ pub(crate) fn read_fields(keyword: Keyword, fields: &[u8]) -> Option<Line>
         Keyword::Stop => read_stop(fields),
         Keyword::Remove => read_remove(fields),
         Keyword::Timeout => read_timeout(fields),
+        Keyword::Retire => read_retire(fields),
+        Keyword::Start => read_start(fields),
     }
 }
 
@@ -243,4 +245,28 @@ fn read_timeout(fields: &[u8]) -> Option<Line>
 {
     let replica = read_replica(fields)?;
     Some(Line::Event(Event::Timeout { replica }))
+}
+
+/// A switch that is to be replaced, where no field follows.
+fn read_retire(fields: &[u8]) -> Option<Line>
+    ensures some { IfSome result (λ l. Reads Keyword.Retire fields.now l) }
+    ensures only { fields.now ≡ [] → result ≡ Some (Line.Event event.Retire) }
+{
+    if fields.is_empty() {
+        Some(Line::Event(Event::Retire))
+    } else {
+        None
+    }
+}
+
+/// The next switch that is started, where no field follows.
+fn read_start(fields: &[u8]) -> Option<Line>
+    ensures some { IfSome result (λ l. Reads Keyword.Start fields.now l) }
+    ensures only { fields.now ≡ [] → result ≡ Some (Line.Event event.Start) }
+{
+    if fields.is_empty() {
+        Some(Line::Event(Event::Start))
+    } else {
+        None
+    }
 }
