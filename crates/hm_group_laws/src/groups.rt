@@ -7,6 +7,7 @@ ghost use Rattle.hm_rules.specs.World.{World, opens};
 ghost use Rattle.hm_rules.specs.Happens.{happens};
 ghost use Rattle.hm_rules.specs.Runs.{run};
 ghost use Rattle.hm_core_laws.specs.Owed.{StepsSound};
+ghost use Rattle.hm_replacement_laws.specs.Replacement.{StampsNeverFall, StampsEnd};
 ghost use Rattle.hm_vr_laws.specs.Voted.{HasQuorums};
 ghost use Rattle.hm_group_laws.specs.Groups.{CanForm, IsLinearizable, IsSound};
 
@@ -16,7 +17,8 @@ use hm_core_laws::events::{
 };
 use hm_primary_laws::primary::{primary_goes_on, primary_holds_at_first, primary_steps_are_sound};
 use hm_replacement_laws::replacement::{
-    events_keep_replacement, one_switch_is_accepted, replacement_holds_at_first,
+    declared_stamps_never_fall, events_keep_replacement, one_switch_is_accepted,
+    replacement_holds_at_first, stamps_end_with_their_switch,
 };
 use hm_vr_laws::vr::{vr_goes_on, vr_holds_at_first, vr_steps_are_sound};
 
@@ -51,6 +53,24 @@ pub fn group_stays_sound()
     vr_goes_on();
 }
 
+/// Every group is sound after every schedule, wherever a switch refuses a write.
+pub fn every_group_is_sound()
+    ensures { (setup : Setup) (es : List Event) (refused : List ℕ) → CanForm setup → IsSound (run (opens setup) es refused) }
+{
+    group_stays_sound();
+}
+
+/// Switches follow one another in every group, after every schedule: no entry of the declared list has a lower stamp than one before
+/// it, and a read that a switch stamped is answered by its stamp only before the next switch was started.
+pub fn every_group_replaces_its_switches()
+    ensures stamps { (setup : Setup) (es : List Event) (refused : List ℕ) → CanForm setup → StampsNeverFall (run (opens setup) es refused).declared }
+    ensures reads { (setup : Setup) (es : List Event) (refused : List ℕ) → CanForm setup → StampsEnd (run (opens setup) es refused) }
+{
+    every_group_is_sound();
+    declared_stamps_never_fall();
+    stamps_end_with_their_switch();
+}
+
 /// Every group is linearizable, be it a chain, of primary-backup or of Viewstamped Replication: after every schedule of writes, reads,
 /// lost, late and repeated packets, stops, removals, timeouts, view changes, ticks and replaced switches, wherever a switch refuses a
 /// write, the history is well formed, each of its replies is due, and its order explains it.
@@ -61,7 +81,7 @@ pub fn every_group_is_linearizable()
         → CanForm setup
         → IsLegal (run (opens setup) es refused).history (order (run (opens setup) es refused).history) }
 {
-    group_stays_sound();
+    every_group_is_sound();
     core_explains_history();
 }
 

@@ -1,3 +1,4 @@
 mod Services
 mod Opens
 mod Kept
+mod Stamps

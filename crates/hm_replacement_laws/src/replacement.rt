@@ -4,7 +4,7 @@ ghost use Rattle.hm_rules.specs.World.{World, opens};
 ghost use Rattle.hm_rules.specs.Happens.{happens};
 ghost use Rattle.hm_core_laws.specs.Core.{Core};
 ghost use Rattle.hm_core_laws.specs.Accepted.{OneAccepted};
-ghost use Rattle.hm_replacement_laws.specs.Replacement.{ReplacementHolds, NoneStartedAbove};
+ghost use Rattle.hm_replacement_laws.specs.Replacement.{ReplacementHolds, NoneStartedAbove, StampsNeverFall, StampsEnd};
 
 use hm_core_laws::epochs::replicas_open;
 use hm_core_laws::events::{events_are_changes, started_switches_are_counted};
@@ -40,4 +40,17 @@ pub fn one_switch_is_accepted()
     no_switch_above();
     started_switches_are_counted();
     commits_are_of_declared_switches();
+}
+
+/// No entry of the declared list has a lower stamp than one before it, of whichever switches they are.
+pub fn declared_stamps_never_fall()
+    ensures { (w : World) → Core w → StampsNeverFall w.declared }
+{}
+
+/// A read that a switch stamped is answered by its stamp only before the next switch was started: from then on each live replica
+/// treats it as a read without a stamp.
+pub fn stamps_end_with_their_switch()
+    ensures { (w : World) → Core w → ReplacementHolds w → StampsEnd w }
+{
+    no_switch_above();
 }

@@ -4,7 +4,6 @@ use Rattle.hm_base.specs.declared.node.GroupKind.TheVariants as kind
 use Rattle.hm_rules.specs.Events.{Setup}
 use Rattle.hm_rules.specs.World.{World, opens}
 use Rattle.hm_rules.specs.Happens.{happens}
-use Rattle.hm_core_laws.specs.Core.{Core}
 use Rattle.hm_chain_laws.specs.Chained.{ChainHolds}
 use Rattle.hm_primary_laws.specs.Led.{PrimaryHolds}
 use Rattle.hm_core_laws.specs.Accepted.{OneAccepted}
