@@ -31,6 +31,13 @@ impl Refusers {
         }
     }
 
+    /// An equal list.
+    pub fn copy(&self) -> Refusers
+        ensures { result ≡ self.now }
+    {
+        Refusers { marks: self.marks }
+    }
+
     /// Whether a replica refused it.
     pub fn holds(&self, replica: u8) -> bool
         requires within { replica ≤ 6 }

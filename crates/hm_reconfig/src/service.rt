@@ -59,6 +59,20 @@ impl Service {
         }
     }
 
+    /// An equal service, to try a call on.
+    pub fn copy(&self) -> Service
+        ensures { result ≡ self.now }
+    {
+        Service {
+            kind: self.kind,
+            members: self.members.copy(),
+            epoch: self.epoch,
+            newest: self.newest,
+            retiring: self.retiring,
+            refused: self.refused.copy(),
+        }
+    }
+
     /// Removes a member, which has to be stopped for good: the epoch rises by one, and in `outs`, in place of what stood
     /// there, comes what to send: the new epoch to each member that is left, in rising order, and the route to the newest
     /// switch. Refused, with nothing changed, exactly where the group is fixed, as in Viewstamped Replication, where the

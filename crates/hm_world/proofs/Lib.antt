@@ -1,4 +1,5 @@
 mod Numbered
+mod SlotsAfter
 mod SlotLemmas
 mod GroupLemmas
 mod TurnLemmas
@@ -7,3 +8,5 @@ mod LiveLemmas
 mod SetupLemmas
 mod OpenLemmas
 mod SoundLemmas
+mod StartLemmas
+mod ServiceLemmas

@@ -141,7 +141,7 @@ acts old new o g number acted s r here step settle =
       world = q.world ∙ ap (λ (h : Happened). h.world) is;
       outcome = q.outcome ∙ ap (λ (h : Happened). h.outcome) is;
       switches = q.switches;
-      keeps = record { events = q.keeps.events; net = q.keeps.net; steps = q.keeps.steps; clients = q.keeps.clients; service = q.keeps.service; group = q.keeps.group ∙ ap (λ (x : Grouped). x.kind) step.same };
+      keeps = record { setup = q.keeps.setup; events = q.keeps.events; net = q.keeps.net; steps = q.keeps.steps; clients = q.keeps.clients; service = q.keeps.service; group = q.keeps.group ∙ ap (λ (x : Grouped). x.kind) step.same };
     }
 
 -- what a replica's step gave, in the state
@@ -154,7 +154,7 @@ settles_done old log acted seen net first count seen_is net_is first_is count_is
       world = ap (λ (x : Noted). world_of (record old { observer = x; net = net })) seen_is ∙ ap (λ (x : Posted). world_of (record old { observer = record old.observer { declared = declared_after old.observer.declared log acted.declared.to; history = old.observer.history ++ commits_since old.observer.declared (declared_after old.observer.declared log acted.declared.to) }; net = x })) net_is;
       outcome = ap (λ (n : ℕ). outcome.Ok n count) first_is ∙ ap (λ (n : ℕ). outcome.Ok (length old.net.packets + 1) n) many;
       switches = refl;
-      keeps = record { events = refl; net = ap (λ (x : Posted). x.limit) net_is; steps = omega arith; clients = omega arith; service = refl; group = refl };
+      keeps = record { setup = refl; events = refl; net = ap (λ (x : Posted). x.limit) net_is; steps = omega arith; clients = omega arith; service = refl; group = refl };
     }
 
 -- ---- what a step may declare
@@ -183,4 +183,4 @@ step_there old g number acted s r here step =
 pub room_stepped : (old : State) (g : Grouped) (number : ℕ) (acted : Acted) (s : Stepped) → HasRoom old → IsGroupStep old.group g number acted s → HasRoom (stepped_to old g)
 room_stepped old g number acted s r step =
     let cap : g.cap ≡ old.group.cap = ap (λ (x : Grouped). x.cap) step.same in
-    record { few = r.few; net = r.net; sent = r.sent; marks = omega (arith, r.marks, cap); entries = omega (arith, r.entries, cap); clients = r.clients; requests = r.requests; steps = r.steps; stops = r.stops; service = r.service ∙ sym (ap (λ (x : Grouped). x.kind) step.same) }
+    record { setup = r.setup; few = r.few; net = r.net; sent = r.sent; marks = omega (arith, r.marks, cap); entries = omega (arith, r.entries, cap); clients = r.clients; requests = r.requests; steps = r.steps; stops = r.stops; service = r.service ∙ sym (ap (λ (x : Grouped). x.kind) step.same) }

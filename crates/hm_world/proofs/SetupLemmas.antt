@@ -86,6 +86,11 @@ none_of None other = refl
 none_of (Some x) other = absurd (other x refl)
 
 -- the members that are opened
+pub few_members : (s : Setup) (members : List ℕ) → setup_fault s ≡ None → members ≡ replicas_below s.size → length members ≤ 7
+few_members s members e same =
+    let few : s.size ≤ 7 = (lawful s e).few in
+    omega (arith, ap (λ (l : List ℕ). length l) same, count_from 0 s.size, few)
+
 pub fixed_members : (s : Setup) (members : List ℕ) → setup_fault s ≡ None → members ≡ replicas_below s.size → is_fixed s.kind ≡ true → AreFixed members
 fixed_members s members e same fixed =
     let told : IsLawful s = lawful s e in

@@ -1,11 +1,8 @@
 -- The slots of the switches after an event, and which writes find them full.
 use Rattle.std.proofs.Common.{◌≡◌, ℕ, ◌+◌, ◌-◌, Bool, List, [], ◌∷◌, ◌++◌, length, Option, Some, refl, sym, ap, ◌∙◌, subst, arith, length-append}
-use Rattle.std.specs.Prelude.{slice_set, nat_lt}
-use Rattle.std.proofs.lemmas.Bool.{cond-false, le-ltb}
-use Rattle.std.proofs.lemmas.List.{drop_all, length-map}
-use Rattle.hm_base.specs.Slots.{Slots, live_slots, slots_raised}
+use Rattle.std.specs.Prelude.{slice_set}
+use Rattle.hm_base.specs.Slots.{Slots}
 use Rattle.hm_base.specs.declared.node.Node.{Node}
-use Rattle.hm_dirtyset.specs.Table.{slots_of}
 use Rattle.hm_packet.specs.declared.body.Body.{Body}
 use Rattle.hm_packet.specs.declared.body.Body.TheVariants as body
 use Rattle.hm_packet.specs.declared.outcome.Outcome.{Outcome}
@@ -16,37 +13,25 @@ use Rattle.hm_packet.specs.Messages.{Message}
 use Rattle.hm_parts.specs.Seen.{Posted}
 use Rattle.hm_rules.specs.Switch.{AbstractSwitch, switch_step}
 use Rattle.hm_rules.specs.Events.{Setup}
-use Rattle.hm_rules.specs.Senders.{number}
 use Rattle.hm_rules.specs.World.{World, Happened, switch_at}
-use Rattle.hm_rules.specs.Deliveries.{to_node, to_switch, at_switch, turned, with_switch}
-use Rattle.hm_rules.specs.Runs.{put_all, slots_after, slotted_after, finds_full_in}
+use Rattle.hm_rules.specs.Deliveries.{to_switch, at_switch, turned, with_switch}
+use Rattle.hm_rules.specs.Runs.{slots_after, slotted_after, finds_full_in}
 use Rattle.hm_refusal_laws.specs.Slotting.{slot_happens}
 use Rattle.hm_schedule.specs.declared.event.Event.{Event}
 use Rattle.hm_world.specs.declared.state.State.{State}
 use Rattle.hm_schedule.specs.Setups.{event_of}
-use Rattle.hm_world.specs.Slotted.{Seen}
-use Rattle.hm_world.specs.Running.{Running, switches_in, tables_in, slots_in, full_in, IsTurn}
+use Rattle.hm_world.specs.Running.{Running, switches_in, slots_in, full_in, IsTurn}
 use Rattle.hm_world.specs.StateFields.{world_of, slotted_of, arrives, Keeps, Quietly, Ends}
+use Rattle.hm_world.proofs.SlotsAfter.{as_many, slots_stay}
 
 -- ---- an event that no switch has to do with
 
--- switches that stay number no write
-slots_stay : (setup : Setup) (ts : List Slots) (ss : List AbstractSwitch) → length ts ≡ length ss → slots_after setup ts ss ss ≡ ts
-slots_stay setup [] [] many = refl
-slots_stay setup [] (s ∷ ss) many = absurd (omega (arith, many))
-slots_stay setup (t ∷ ts) [] many = absurd (omega (arith, many))
-slots_stay setup (t ∷ ts) (s ∷ ss) many =
-    ap (λ (l : List ℕ). slots_raised s.point s.point (put_all t s.point (length s.numbered + 1) l) ∷ slots_after setup ts ss ss) (drop_all (length s.numbered) s.numbered (omega arith))
-    ∙ ap (λ (x : Slots). x ∷ slots_after setup ts ss ss) (cond-false (nat_lt s.point s.point) (live_slots s.point t) t (le-ltb s.point s.point (omega arith)))
-    ∙ ap (λ (l : List Slots). t ∷ l) (slots_stay setup ts ss (omega (arith, many)))
-
-follow_quietly : (old new : State) → new.switches ≡ old.switches → slotted_of new ≡ slotted_after (slotted_of old) (world_of new)
+pub follow_quietly : (old new : State) → new.switches ≡ old.switches → slotted_of new ≡ slotted_after (slotted_of old) (world_of new)
 follow_quietly old new same =
     let r : Running = old.switches in
     let setup : Setup = (world_of new).setup in
-    let many : length (slots_in r) ≡ length (switches_in r) = length-map (tables_in r) slots_of ∙ length-map r.seen (λ (s : Seen). s.table) ∙ sym (length-map r.seen (λ (s : Seen). s.switch)) in
     ap (λ (l : List Slots). record { world = world_of new; slots = l })
-    (ap slots_in same ∙ sym (slots_stay setup (slots_in r) (switches_in r) many) ∙ ap (λ (x : Running). slots_after setup (slots_in r) (switches_in r) (switches_in x)) (sym same))
+    (ap slots_in same ∙ sym (slots_stay setup (slots_in r) (switches_in r) (as_many r)) ∙ ap (λ (x : Running). slots_after setup (slots_in r) (switches_in r) (switches_in x)) (sym same))
 
 pub ends_quietly : (old new : State) (o : Outcome) (h : Happened) → Quietly old new o h → Ends old new o h
 ends_quietly old new o h q = record { world = follow_quietly old new q.switches ∙ ap (slotted_after (slotted_of old)) q.world; outcome = q.outcome; keeps = q.keeps }
@@ -97,11 +82,11 @@ turned_outcome w n s turn.Full = refl
 turned_outcome w n s turn.Spent = refl
 
 turned_keeps : (old : State) (r : Running) (made : Turn) → r.steps ≡ old.switches.steps + 1 → Keeps old (turned_to old r made)
-turned_keeps old r (turn.Sent p) steps = record { events = refl; net = refl; steps = omega (arith, steps); clients = omega arith; service = refl; group = refl }
-turned_keeps old r turn.Noted steps = record { events = refl; net = refl; steps = omega (arith, steps); clients = omega arith; service = refl; group = refl }
-turned_keeps old r (turn.Ignored reason) steps = record { events = refl; net = refl; steps = omega (arith, steps); clients = omega arith; service = refl; group = refl }
-turned_keeps old r turn.Full steps = record { events = refl; net = refl; steps = omega (arith, steps); clients = omega arith; service = refl; group = refl }
-turned_keeps old r turn.Spent steps = record { events = refl; net = refl; steps = omega (arith, steps); clients = omega arith; service = refl; group = refl }
+turned_keeps old r (turn.Sent p) steps = record { setup = refl; events = refl; net = refl; steps = omega (arith, steps); clients = omega arith; service = refl; group = refl }
+turned_keeps old r turn.Noted steps = record { setup = refl; events = refl; net = refl; steps = omega (arith, steps); clients = omega arith; service = refl; group = refl }
+turned_keeps old r (turn.Ignored reason) steps = record { setup = refl; events = refl; net = refl; steps = omega (arith, steps); clients = omega arith; service = refl; group = refl }
+turned_keeps old r turn.Full steps = record { setup = refl; events = refl; net = refl; steps = omega (arith, steps); clients = omega arith; service = refl; group = refl }
+turned_keeps old r turn.Spent steps = record { setup = refl; events = refl; net = refl; steps = omega (arith, steps); clients = omega arith; service = refl; group = refl }
 
 pub turns : (old : State) (r : Running) (made : Turn) (n : ℕ) (m : Message) (s : AbstractSwitch) → switch_at (world_of old) n ≡ Some s → IsTurn old.switches r n made s m
     → Ends old (turned_to old r made) (told_by made (length old.net.packets)) (to_switch (finds_full_in (slotted_of old) n m.body) (world_of old) m n (switch_at (world_of old) n))

@@ -24,6 +24,7 @@ use Rattle.hm_rules.specs.World.{World, Happened, sent_at, switch_at}
 use Rattle.hm_rules.specs.Deliveries.{to_switch, to_node, deliver}
 use Rattle.hm_rules.specs.Happens.{passed, next}
 use Rattle.hm_world.specs.declared.state.State.{State}
+use Rattle.hm_world.specs.Setups.{setup_fault}
 use Rattle.hm_world.specs.StateFields.{world_of, slotted_of, arrives, IsKept, IsBegun, Keeps, Quietly, Ends}
 use Rattle.hm_world.proofs.SlotLemmas.{ends_quietly}
 
@@ -33,6 +34,7 @@ pub kept_after : (mid new : State) → IsBegun mid → Keeps mid new → IsKept 
 kept_after mid new begun keeps =
     let r = begun.room in
     record {
+      setup = ap setup_fault keeps.setup ∙ r.setup;
       events = omega (arith, r.few, keeps.events);
       net = omega (arith, r.sent, keeps.events, keeps.net);
       steps = omega (arith, r.steps, keeps.events, keeps.steps);
@@ -41,7 +43,7 @@ kept_after mid new begun keeps =
     }
 
 keeps_same : (old : State) → Keeps old old
-keeps_same old = record { events = refl; net = refl; steps = omega arith; clients = omega arith; service = refl; group = refl }
+keeps_same old = record { setup = refl; events = refl; net = refl; steps = omega arith; clients = omega arith; service = refl; group = refl }
 
 -- ---- packets
 
@@ -92,7 +94,7 @@ begun_passed : (old : State) → IsBegun old → IsBegun (passed_to old)
 begun_passed old b =
     let r = b.room in
     record {
-      room = record { few = r.few; net = r.net; sent = r.sent; marks = r.marks; entries = r.entries; clients = r.clients; requests = r.requests; steps = r.steps; stops = r.stops; service = r.service };
+      room = record { setup = r.setup; few = r.few; net = r.net; sent = r.sent; marks = r.marks; entries = r.entries; clients = r.clients; requests = r.requests; steps = r.steps; stops = r.stops; service = r.service };
       ready = record { declared = λ n s step. b.ready.declared n s (step_before (world_of old) n s step) };
     }
 
@@ -111,7 +113,7 @@ passed_ends old new o m e =
     let same : arriving (passed_to old) m ≡ next (finds_full_in (slotted_of old) (number m.dst) m.body) (world_of old) (Some m) =
     ap (λ (b : Bool). to_node b (passed (world_of old)) m m.dst) (full_once_passed old (number m.dst) m.body) in
     subst (λ (h : Happened). Ends old new o h) same
-    (record { world = e.world; outcome = e.outcome; keeps = record { events = e.keeps.events; net = e.keeps.net; steps = e.keeps.steps; clients = e.keeps.clients; service = e.keeps.service; group = e.keeps.group } })
+    (record { world = e.world; outcome = e.outcome; keeps = record { setup = e.keeps.setup; events = e.keeps.events; net = e.keeps.net; steps = e.keeps.steps; clients = e.keeps.clients; service = e.keeps.service; group = e.keeps.group } })
 
 -- the packet at the cursor arrives once the cursor has passed it
 pub next_ends : (old new : State) (o : Outcome) (net : Posted) (m : Message) → net ≡ record old.net { cursor = old.net.cursor + 1 } → Some m ≡ slice_get old.net.packets old.net.cursor → Ends (record old { net = net }) new o (arriving (record old { net = net }) m)

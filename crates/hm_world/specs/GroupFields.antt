@@ -1,5 +1,5 @@
 -- What contracts see of a group's fields, and what holds of them.
-use Rattle.std.specs.Prelude.{◌≡◌, ◌≤◌, List, All}
+use Rattle.std.specs.Prelude.{◌≡◌, ◌≤◌, List, All, length}
 use Rattle.hm_base.specs.declared.node.GroupKind.{GroupKind}
 use Rattle.hm_base.specs.declared.node.GroupKind.TheVariants as kind
 use Rattle.hm_rules.specs.Replica.{Replica}
@@ -24,4 +24,5 @@ grouped_of g = record { kind = kind_in g.members; cap = g.cap; replicas = replic
 
 pub record IsKept (g : Inside) : Type 0 where
   pub bounded : g.cap ≤ max_log_len
+  pub few : length (replicas_in g.members) ≤ 7
   pub caps : All (λ (r : Replica). r.cap ≡ g.cap) (replicas_in g.members)

@@ -9,6 +9,8 @@ use Rattle.hm_packet.specs.declared.outcome.Bar.{Bar}
 use Rattle.hm_packet.specs.declared.outcome.Bar.TheVariants as bar
 use Rattle.hm_reconfig.specs.declared.fault.RemoveFault.{RemoveFault}
 use Rattle.hm_reconfig.specs.declared.fault.RemoveFault.TheVariants as fault
+use Rattle.hm_reconfig.specs.declared.fault.StartFault.{StartFault}
+use Rattle.hm_reconfig.specs.declared.fault.StartFault.TheVariants as start
 use Rattle.hm_rules.specs.Declared.{declared_after, commits_since}
 use Rattle.hm_rules.specs.World as rule
 
@@ -34,3 +36,8 @@ abbrev pub removal_bar : RemoveFault → Bar
 removal_bar fault.Fixed = bar.Fixed
 removal_bar fault.NotMember = bar.Member
 removal_bar fault.Last = bar.Last
+
+abbrev pub start_bar : StartFault → Bar
+start_bar start.NotRetired = bar.NotRetired
+start_bar (start.NotRefused replica) = bar.NotRefused
+start_bar start.NoNumber = bar.NoSwitch

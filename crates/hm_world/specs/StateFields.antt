@@ -1,5 +1,5 @@
 -- The rules' world for a state, what holds of a state between events and in one, and how an event ends.
-use Rattle.std.specs.Prelude.{◌≡◌, ℕ, ◌+◌, ◌*◌, ◌<◌, ◌≤◌, length, Option, vec_len, vec_capacity}
+use Rattle.std.specs.Prelude.{◌≡◌, ℕ, ◌+◌, ◌*◌, ◌<◌, ◌≤◌, length, Option, None, vec_len, vec_capacity}
 use Rattle.hm_base.specs.declared.node.Node.{Node}
 use Rattle.hm_base.specs.Lists.{IsPrefix}
 use Rattle.hm_core_laws.specs.Changes.{IsStep}
@@ -15,6 +15,7 @@ use Rattle.hm_rules.specs.Senders.{number}
 use Rattle.hm_rules.specs.World as rule
 use Rattle.hm_schedule.specs.Limits.{max_events}
 use Rattle.hm_world.specs.Running.{switches_in, slots_in}
+use Rattle.hm_world.specs.Setups.{setup_fault}
 use Rattle.hm_world.specs.declared.state.State.{State}
 
 abbrev pub world_of : State → rule.World
@@ -49,6 +50,7 @@ pub record IsReady (w : rule.World) : Type 0 where
   pub declared : (number : ℕ) (s : Stepped) → IsStep w number s → IsPrefix w.declared (declared_by w s)
 
 pub record IsKept (s : State) : Type 0 where
+  pub setup : setup_fault s.setup ≡ None
   pub events : s.events ≤ max_events
   pub net : s.net.limit ≤ max_outs * s.events
   pub steps : s.switches.steps ≤ s.events
@@ -59,6 +61,7 @@ pub record IsKept (s : State) : Type 0 where
 
 -- there is room for all that one event may give
 pub record HasRoom (s : State) : Type 0 where
+  pub setup : setup_fault s.setup ≡ None
   pub few : s.events ≤ max_events
   pub net : length s.net.packets + max_outs ≤ s.net.limit
   pub sent : s.net.limit ≤ max_outs * s.events
@@ -76,6 +79,7 @@ pub record IsBegun (s : State) : Type 0 where
 
 -- what is said of a state between events is true again after one
 pub record Keeps (old new : State) : Type 0 where
+  pub setup : new.setup ≡ old.setup
   pub events : new.events ≡ old.events
   pub net : new.net.limit ≡ old.net.limit
   pub steps : new.switches.steps ≤ old.switches.steps + 1

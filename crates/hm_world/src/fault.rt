@@ -7,7 +7,7 @@ use crate::group::forms;
 use hm_base::memory::NoMemory;
 use hm_dirtyset::dirty_set::{MAX_BITS, MAX_STAGES};
 use hm_packet::outcome::Bar;
-use hm_reconfig::fault::RemoveFault;
+use hm_reconfig::fault::{RemoveFault, StartFault};
 use hm_schedule::event::Setup;
 use hm_store::ledger::MAX_LOG_LEN;
 use hm_switch::switch::MAX_LIFE;
@@ -74,5 +74,16 @@ pub(crate) fn bar_of(fault: RemoveFault) -> Bar
         RemoveFault::Fixed => Bar::Fixed,
         RemoveFault::NotMember => Bar::Member,
         RemoveFault::Last => Bar::Last,
+    }
+}
+
+/// The bar of a start that the service refuses.
+pub(crate) fn start_bar_of(fault: StartFault) -> Bar
+    ensures { result ≡ settled.start_bar fault }
+{
+    match fault {
+        StartFault::NotRetired => Bar::NotRetired,
+        StartFault::NotRefused { .. } => Bar::NotRefused,
+        StartFault::NoNumber => Bar::NoSwitch,
     }
 }

@@ -56,6 +56,7 @@ impl Group {
         members: &hm_base::members::Members,
     ) -> Result<Group, NoMemory>
         requires fixed { is_fixed kind ≡ true → AreFixed members.now }
+        requires few { length members.now ≤ 7 }
         requires bounded { cap ≤ max_log_len }
         ensures { IfOk result (λ g. g ≡ record { kind = kind; cap = cap; replicas = map (λ me. opened me members.now cap) members.now }) }
     {
@@ -65,9 +66,10 @@ impl Group {
         })
     }
 
-    /// How many replicas there are.
+    /// How many replicas there are, at most seven.
     pub fn len(&self) -> usize
-        ensures { result ≡ length self.now.replicas }
+        ensures count { result ≡ length self.now.replicas }
+        ensures few { result ≤ 7 }
     {
         match &self.members {
             Members::Chain(list) => list.len(),

@@ -7,6 +7,7 @@ mod client_events;
 pub mod fault;
 pub mod group;
 mod replica_events;
+mod service_events;
 mod slotted;
 mod state;
 mod switches;

@@ -5,9 +5,8 @@ ghost use Rattle.hm_rules.specs.Replica.{Replica};
 ghost use Rattle.hm_rules.specs.Deliveries as arrival;
 ghost use Rattle.hm_rules.specs.Happens as rules;
 ghost use Rattle.hm_rules.specs.World as rule;
-ghost use Rattle.hm_world.specs.Settled.{settled, live_bar, removal_bar};
+ghost use Rattle.hm_world.specs.Settled.{settled, live_bar};
 
-use crate::fault::bar_of;
 use crate::state::State;
 use hm_base::node::Node;
 use hm_base::why::Why;
@@ -15,7 +14,6 @@ use hm_codec::acted::Acted;
 use hm_packet::acted::Did;
 use hm_packet::outcome::{Bar, Outcome};
 use hm_packet::packet::Packet;
-use hm_replica::group::is_member;
 use hm_schedule::event::Event;
 
 impl State {
@@ -75,26 +73,6 @@ impl State {
         self.none_sent()
     }
 
-    /// A stopped member is removed from the group, and the new epoch is told.
-    pub(crate) fn remove(&mut self, number: u8, acted: &mut Acted) -> Outcome
-        requires { IsBegun self.old }
-        ensures { Quietly self.old self.new result (rules.removal (world_of self.old) number) }
-    {
-        let runs = is_member(self.service.members(), number) && !is_in(number, &self.stopped);
-        if runs && !self.group.is_fixed() {
-            return Outcome::NotAllowed(Bar::Live);
-        }
-        let first = self.net.len() + 1;
-        match self.service.remove(number, &mut acted.outs) {
-            Ok(()) => {
-                let count = acted.outs.len();
-                self.net.post_all(&acted.outs);
-                Outcome::Ok { first, count }
-            }
-            Err(fault) => Outcome::NotAllowed(bar_of(fault)),
-        }
-    }
-
     /// Why a replica can't act, if it can't: it isn't there, or it is stopped.
     fn bar_at(&self, number: u8) -> Option<Bar>
         ensures { result ≡ live_bar (world_of self.now) number }
@@ -144,7 +122,7 @@ fn put(numbers: &mut Vec<u8>, number: u8)
 }
 
 /// Whether a number stands in a list.
-fn is_in(number: u8, list: &[u8]) -> bool
+pub(crate) fn is_in(number: u8, list: &[u8]) -> bool
     ensures { result ≡ stands_in number list.now }
 {
     list.iter().any(|other| *other == number)

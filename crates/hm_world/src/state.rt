@@ -1,6 +1,6 @@
 ghost use Rattle.std.specs.Option.{option_map};
 ghost use Rattle.hm_wire.specs.Packets.{spelling, HasSpelling};
-ghost use Rattle.std.specs.Prelude.{All, option_copied, ◌≡◌, ◌<◌, ◌≤◌, ◌+◌, length, Some, None, IfOk, OnOk, OnErr, IfErr, ◌⊎◌};
+ghost use Rattle.std.specs.Prelude.{All, option_copied, ◌≡◌, ◌≢◌, ◌<◌, ◌≤◌, ◌+◌, length, Some, None, IfOk, OnOk, OnErr, IfErr, ◌⊎◌};
 ghost use Rattle.hm_rules.specs.Runs.{slotted};
 ghost use Rattle.hm_refusal_laws.specs.Slotting.{slot_happens, slot_step};
 ghost use Rattle.hm_rules.specs.World as rule;
@@ -86,6 +86,9 @@ impl State {
         ensures err { OnErr result (slotted_of self.new ≡ slotted_of self.old) }
         ensures err_events { OnErr result (self.new.events ≡ self.old.events) }
     {
+        if let Event::Start = event {
+            return self.start();
+        }
         self.begin()?;
         Ok(self.take(event, acted, room))
     }
@@ -109,9 +112,10 @@ impl State {
         Ok(())
     }
 
-    /// What an event does once there is room for it.
+    /// What an event does once there is room for it. A start takes its own room.
     fn take(&mut self, event: &Event, acted: &mut Acted, room: &mut PageRoom) -> Outcome
-        requires { IsBegun self.old }
+        requires begun { IsBegun self.old }
+        requires other { event.now ≢ Event.Start }
         ensures { Ends self.old self.new result (slot_happens (slotted_of self.old) (event_of event.now)) }
     {
         match event {
@@ -140,6 +144,8 @@ impl State {
             Event::Stop { replica } => self.stop(*replica),
             Event::Remove { replica } => self.remove(*replica, acted),
             Event::Timeout { replica } => self.timeout(*replica, acted),
+            Event::Retire => self.retire(acted),
+            Event::Start => unreachable!(),
         }
     }
 

@@ -1,4 +1,4 @@
-ghost use Rattle.std.specs.Prelude.{◌≡◌, ◌<◌, ◌+◌, ◌∷◌, [], None, Some, IfOk, is_some, true};
+ghost use Rattle.std.specs.Prelude.{◌≡◌, ◌<◌, ◌++◌, ◌∷◌, [], None, Some, IfOk, OnOk, OnErr, is_some, true};
 ghost use Rattle.hm_base.specs.Slots.{no_slots};
 ghost use Rattle.hm_rules.specs.Switch.{AbstractSwitch, opening};
 ghost use Rattle.hm_schedule.specs.Limits.{max_events};
@@ -13,11 +13,11 @@ use hm_packet::turn::Turn;
 use std::alloc::Global;
 use std::marker::Model;
 
-/// The switches that were started: the first has the number 1. Contracts see the rules' switches, their dirty tables, and how
-/// many packets they handled.
+/// The switches that were started: the first has the number 1, and each goes on taking packets once others are started. Contracts
+/// see the rules' switches, their dirty tables, and how many packets all of them handled.
 #[derive(Drop)]
 pub struct Switches {
-    first: SlottedSwitch,
+    started: Vec<SlottedSwitch>,
     steps: u32,
 }
 
@@ -47,18 +47,40 @@ impl Switches {
         ensures slots { IfOk result (λ s. slots_in s ≡ no_slots stages bits ∷ []) }
         ensures steps { IfOk result (λ s. s.steps ≡ 0) }
     {
-        Ok(Switches {
-            first: SlottedSwitch::open(alloc, 1, stages, bits, life, route)?,
+        let mut switches = Switches {
+            started: Vec::new(alloc),
             steps: 0,
-        })
+        };
+        switches.start(1, stages, bits, life, route)?;
+        Ok(switches)
     }
 
-    /// Whether a switch was started: only switch 1 is.
+    /// Whether a switch was started.
     pub fn is_started(&self, number: u32) -> bool
         ensures { result ≡ is_some (started_in (switches_in self.now) number) }
     {
-        let _first = &self.first;
-        number == 1
+        number > 0 && number as usize <= self.started.len()
+    }
+
+    /// One more switch is started, before its first packet. All its memory is taken here; where that is wanting, nothing changes.
+    pub fn start(
+        &mut self,
+        id: u32,
+        stages: u8,
+        bits: u8,
+        life: u32,
+        route: &Route,
+    ) -> Result<(), NoMemory>
+        requires { switch_fault id stages bits life ≡ None }
+        ensures switches { OnOk result (switches_in self.new ≡ switches_in self.old ++ opening id stages life route.now ∷ []) }
+        ensures slots { OnOk result (slots_in self.new ≡ slots_in self.old ++ no_slots stages bits ∷ []) }
+        ensures steps { self.new.steps ≡ self.old.steps }
+        ensures err { OnErr result (self.new ≡ self.old) }
+    {
+        let alloc = *self.started.allocator();
+        let switch = SlottedSwitch::open(alloc, id, stages, bits, life, route)?;
+        self.started.push(switch)?;
+        Ok(())
     }
 
     /// A switch that was started handles a packet.
@@ -68,6 +90,6 @@ impl Switches {
         ensures { (s : AbstractSwitch) → started_in (switches_in self.old) number ≡ Some s → IsTurn self.old self.new number result s packet.now }
     {
         self.steps += 1;
-        self.first.step(packet)
+        self.started[number as usize - 1].step(packet)
     }
 }

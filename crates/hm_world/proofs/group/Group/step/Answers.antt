@@ -4,18 +4,14 @@ use Rattle.hm_rules.specs.Deliveries.{replica_step}
 use Rattle.hm_rules.specs.Replica.{Replica}
 use Rattle.hm_world.specs.Grouped.{Grouped, IsGroupStep}
 use Rattle.hm_world.specs.GroupFields.{kind_in, grouped_of}
-use Rattle.hm_world.proofs.GroupLemmas.{group_step, group_members}
+use Rattle.hm_world.proofs.GroupLemmas.{group_step, group_kept}
 use Rattle.hm_world.proofs.group.Group.step.Goals as goal
 
 pub invariant_of-self : goal.invariant_of-self
 invariant_of-self c =
     let w = c.self.inside in
     let there = subst (λ (x : Grouped). c.args.number < length x.replicas) (sym c.self.view_is) c.requires in
-    record {
-      bounded = c.self.invariant.bounded;
-      caps = group_members w (record { members = c.step_in.new.members; cap = w.cap }) c.args.number c.step_in.new.acted (λ (r : Replica). replica_step (kind_in w.members) r c.args.packet.now) there c.step_in.ensures.step
-          (λ r. c.every_step_keeps.ensures.step (kind_in w.members) r c.args.packet.now) c.self.invariant.caps;
-    }
+    group_kept w (record { members = c.step_in.new.members; cap = w.cap }) c.args.number c.step_in.new.acted (λ (r : Replica). replica_step (kind_in w.members) r c.args.packet.now) refl there c.step_in.ensures.step (λ r. c.every_step_keeps.ensures.step (kind_in w.members) r c.args.packet.now) c.self.invariant
 
 pub returns : goal.returns
 returns c =

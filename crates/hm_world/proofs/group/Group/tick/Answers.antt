@@ -4,18 +4,14 @@ use Rattle.hm_rules.specs.Deliveries.{replica_tick}
 use Rattle.hm_rules.specs.Replica.{Replica}
 use Rattle.hm_world.specs.Grouped.{Grouped, IsGroupStep}
 use Rattle.hm_world.specs.GroupFields.{kind_in, grouped_of}
-use Rattle.hm_world.proofs.GroupLemmas.{group_step, group_members}
+use Rattle.hm_world.proofs.GroupLemmas.{group_step, group_kept}
 use Rattle.hm_world.proofs.group.Group.tick.Goals as goal
 
 pub invariant_of-self : goal.invariant_of-self
 invariant_of-self c =
     let w = c.self.inside in
     let there = subst (λ (x : Grouped). c.args.number < length x.replicas) (sym c.self.view_is) c.requires in
-    record {
-      bounded = c.self.invariant.bounded;
-      caps = group_members w (record { members = c.tick_in.new.members; cap = w.cap }) c.args.number c.tick_in.new.acted (λ (r : Replica). replica_tick (kind_in w.members) r) there c.tick_in.ensures.step
-          (λ r. c.every_step_keeps.ensures.tick (kind_in w.members) r) c.self.invariant.caps;
-    }
+    group_kept w (record { members = c.tick_in.new.members; cap = w.cap }) c.args.number c.tick_in.new.acted (λ (r : Replica). replica_tick (kind_in w.members) r) refl there c.tick_in.ensures.step (λ r. c.every_step_keeps.ensures.tick (kind_in w.members) r) c.self.invariant
 
 pub returns : goal.returns
 returns c =

@@ -1,28 +1,25 @@
 use Rattle.std.proofs.Common.{◌≡◌, ◌<◌, refl, sym, ap, subst, ◌∙◌, inl, inr}
-use Rattle.std.specs.Prelude.{All, length, slice_get, Some, true, false}
+use Rattle.std.specs.Prelude.{length, slice_get, Some, true, false}
 use Rattle.std.proofs.lemmas.Bool.{cases_Bool}
 use Rattle.hm_rules.specs.Replica.{Replica}
 use Rattle.hm_rules.specs.Service.{is_fixed}
 use Rattle.hm_rules.specs.Viewstamped.{vr_timeout}
 use Rattle.hm_world.specs.Grouped.{Grouped, IsGroupStep}
-use Rattle.hm_world.specs.GroupFields.{kind_in, replicas_in, grouped_of}
+use Rattle.hm_world.specs.GroupFields.{kind_in, grouped_of, IsKept}
 use Rattle.hm_world.specs.declared.group.Members.{Members}
 use Rattle.hm_world.specs.declared.group.Group.TheInside.{Inside}
-use Rattle.hm_world.proofs.GroupLemmas.{group_step, group_members}
+use Rattle.hm_world.proofs.GroupLemmas.{group_step, group_kept}
 use Rattle.hm_world.proofs.group.Group.timeout.Goals as goal
 
 pub invariant_of-self : goal.invariant_of-self
 invariant_of-self c =
     let w = c.self.inside in
     let there = subst (λ (x : Grouped). c.args.number < length x.replicas) (sym c.self.view_is) c.requires in
-    record {
-      bounded = c.self.invariant.bounded;
-      caps = elim (cases_Bool (is_fixed (kind_in w.members))) [
-        | inl fixed ↦ group_members w (record { members = c.timeout_in.new.members; cap = w.cap }) c.args.number c.timeout_in.new.acted (λ (r : Replica). vr_timeout r) there (c.timeout_in.ensures.step fixed)
-            (λ r. c.every_step_keeps.ensures.timeout r) c.self.invariant.caps
-        | inr loose ↦ subst (λ (ms : Members). All (λ (r : Replica). r.cap ≡ w.cap) (replicas_in ms)) (sym (c.timeout_in.ensures.idle loose)) c.self.invariant.caps
-      ];
-    }
+    elim (cases_Bool (is_fixed (kind_in w.members))) [
+      | inl fixed ↦ group_kept w (record { members = c.timeout_in.new.members; cap = w.cap }) c.args.number c.timeout_in.new.acted (λ (r : Replica). vr_timeout r) refl there (c.timeout_in.ensures.step fixed)
+          (λ r. c.every_step_keeps.ensures.timeout r) c.self.invariant
+      | inr loose ↦ subst (λ (ms : Members). IsKept (record { members = ms; cap = w.cap })) (sym (c.timeout_in.ensures.idle loose)) c.self.invariant
+    ]
 
 pub returns-clause-step : goal.returns-clause-step
 returns-clause-step c = λ fixed.

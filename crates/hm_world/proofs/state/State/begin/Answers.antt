@@ -31,6 +31,7 @@ returns-clause-begun c =
     ∙ ap (λ (l : List ℕ). record (world_of old) { stopped = l }) c.in_ok-reserve-3.ensures.items in
     record {
       room = record {
+        setup = kept.setup;
         few = omega (arith, c.requires.few);
         net = omega (arith, packets, limit);
         sent = omega (arith, limit, c.in_ok-reserve-4.ensures.within, kept.net);

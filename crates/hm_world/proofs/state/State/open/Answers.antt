@@ -1,6 +1,6 @@
 use Rattle.std.proofs.Common.{sym, ap, ◌∙◌}
 use Rattle.hm_rules.specs.Service.{Service}
-use Rattle.hm_world.proofs.SetupLemmas.{fixed_members, none_of}
+use Rattle.hm_world.proofs.SetupLemmas.{few_members, fixed_members, none_of}
 use Rattle.hm_world.proofs.OpenLemmas.{opens_is}
 use Rattle.hm_world.proofs.state.State.open.Goals as goal
 
@@ -12,3 +12,7 @@ returns-clause-opened c =
 pub open-requires-clause-fixed : goal.open-requires-clause-fixed
 open-requires-clause-fixed c =
     fixed_members c.args.setup.now c.members.result.now (sym c.fault_of.ensures ∙ none_of c.fault_of.result c.in_default.not-Some) (c.members.ensures ∙ ap (λ (s : Service). s.members) c.open-service.ensures)
+
+pub open-requires-clause-few : goal.open-requires-clause-few
+open-requires-clause-few c =
+    few_members c.args.setup.now c.members.result.now (sym c.fault_of.ensures ∙ none_of c.fault_of.result c.in_default.not-Some) (c.members.ensures ∙ ap (λ (s : Service). s.members) c.open-service.ensures)

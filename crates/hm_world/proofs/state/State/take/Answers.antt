@@ -24,3 +24,6 @@ returns-in-Remove c = take_quietly c.args.self.now c.remove.new.self c.remove.re
 
 pub returns-in-Timeout : goal.returns-in-Timeout
 returns-in-Timeout c = take_quietly c.args.self.now c.timeout.new.self c.timeout.result c.args.event.now _ c.in-Timeout.is c.timeout.ensures
+
+pub returns-in-Retire : goal.returns-in-Retire
+returns-in-Retire c = take_quietly c.args.self.now c.retire.new.self c.retire.result c.args.event.now _ c.in-Retire.is c.retire.ensures
