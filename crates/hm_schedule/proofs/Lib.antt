@@ -5,5 +5,6 @@ mod LineLemmas
 mod BufferParts
 mod LineFronts
 mod LinePushes
+mod GeneratedLines
 mod NotNext
 mod Opened

@@ -7,6 +7,8 @@ pub mod Reasons
 pub mod Names
 pub mod Schedules
 pub mod Orders
+pub mod Generated
+pub mod Generators
 pub mod Reads
 pub mod Lines
 pub mod Fills

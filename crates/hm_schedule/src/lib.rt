@@ -3,6 +3,7 @@
 
 pub mod event;
 mod fields;
+pub mod generator;
 pub mod keyword;
 pub mod law;
 pub mod limits;
