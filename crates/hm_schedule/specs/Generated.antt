@@ -1,5 +1,5 @@
 -- The schedule that is made of a number: each event by two draws of a linear congruential generator (the one of Knuth's MMIX).
-use Rattle.std.specs.Prelude.{ℕ, zero, suc, ◌+◌, ◌*◌, ◌/◌, ◌%◌, ◌^◌, ◌==◌, nat_lt, if◌then◌else◌, List, [], ◌∷◌}
+use Rattle.std.specs.Prelude.{ℕ, zero, suc, ◌+◌, ◌-◌, ◌*◌, ◌/◌, ◌%◌, ◌^◌, ◌==◌, nat_lt, if◌then◌else◌, List, [], ◌∷◌}
 use Rattle.std.specs.Int.{w16, to_be_bytes}
 use Rattle.hm_base.specs.declared.node.GroupKind.{GroupKind}
 use Rattle.hm_base.specs.declared.node.GroupKind.TheVariants as kind
@@ -32,17 +32,17 @@ draw_of state = state / 2 ^ 33
 abbrev pub parts : ℕ
 parts = 64
 
--- which kind of event each of them stands for
+-- how many of them stand for each kind of event
+abbrev pub shares : List (Choice × ℕ)
+shares = (choice.Write, 3) ∷ (choice.Read, 3) ∷ (choice.Resend, 1) ∷ (choice.Tick, 1) ∷ (choice.Drop, 1) ∷ (choice.Deliver, 1) ∷ (choice.Timeout, 1) ∷ (choice.Next, 53) ∷ []
+
+-- whose share a part is
+abbrev pub shared_at : List (Choice × ℕ) → ℕ → Choice
+shared_at [] part = choice.Next
+shared_at (share ∷ rest) part = if nat_lt part share.1 then share.0 else shared_at rest (part - share.1)
+
 abbrev pub choice_at : ℕ → Choice
-choice_at part =
-    if nat_lt part 3 then choice.Write
-    else if nat_lt part 6 then choice.Read
-    else if part == 6 then choice.Resend
-    else if part == 7 then choice.Tick
-    else if part == 8 then choice.Drop
-    else if part == 9 then choice.Deliver
-    else if part == 10 then choice.Timeout
-    else choice.Next
+choice_at part = shared_at shares part
 
 abbrev pub clients : ℕ
 clients = 8
