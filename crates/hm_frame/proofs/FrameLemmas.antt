@@ -1,13 +1,13 @@
 -- Frames at the front of bytes, and calls one after another.
-use Rattle.std.proofs.Common.{◌≡◌, ℕ, ◌+◌, ◌-◌, ◌<◌, ◌≤◌, List, [], ◌∷◌, ◌++◌, length, take, drop, Option, Some, None, Result, Ok, Err, refl, sym, ap, subst, ◌∙◌, inl, inr, append_assoc, arith}
-use Rattle.std.specs.Prelude.{◌↔◌, flat_map}
+use Rattle.std.proofs.Common.{◌≡◌, ℕ, ◌+◌, ◌-◌, ◌<◌, ◌≤◌, List, [], ◌∷◌, ◌++◌, length, take, drop, Some, None, Ok, Err, refl, sym, ap, subst, ◌∙◌, inl, inr, append_assoc, arith}
+use Rattle.std.specs.Prelude.{flat_map}
 use Rattle.std.specs.Int.{w16, to_be_bytes, from_be_bytes}
 use Rattle.std.proofs.lemmas.Nat.{from_be_bytes-to_be_bytes_2}
 use Rattle.std.proofs.lemmas.List.{length-append, length-take, length-drop, append-nil, take_at, drop_at, take-append-drop, drop-drop}
 use Rattle.hm_packet.specs.Messages.{Message}
 use Rattle.hm_wire.specs.Packets.{spelling, first_fault, max_spelling_len, HasSpelling}
 use Rattle.hm_wire.specs.declared.malformed.Malformed.{Malformed}
-use Rattle.hm_frame.specs.Frames.{max_payload_len, head_len, frame, payload_len, payload, IsPart, IsAtFault, Takes, Answers, Call, Calls, fed, given, IsStuck}
+use Rattle.hm_frame.specs.Frames.{max_payload_len, head_len, frame, payload_len, payload, IsPart, IsAtFault, Takes, Call, Calls, fed, given, IsStuck}
 
 -- ---- a frame at the front
 

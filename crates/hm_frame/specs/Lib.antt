@@ -1,1 +1,4 @@
 pub mod Frames
+pub mod LinkCalls
+pub mod Links
+pub mod Wires
