@@ -14,6 +14,8 @@ mod feed;
 #[cfg(test)]
 mod frame;
 #[cfg(test)]
+mod generator;
+#[cfg(test)]
 mod links;
 #[cfg(test)]
 mod order;
