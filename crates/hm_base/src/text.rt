@@ -219,7 +219,7 @@ pub fn write_answer(answer: &Answer, out: &mut Text) -> Result<(), NoMemory>
 }
 
 /// Appends a letter and a number.
-#[inline]
+#[inline(always)]
 fn write_lettered(letter: u8, number: u64, out: &mut Text) -> Result<(), NoMemory>
     ensures ok { OnOk result (out.new.items ≡ out.old.items ++ letter ∷ decimal number) }
     ensures err { OnErr result (out.new.items ≡ out.old.items) }
@@ -234,7 +234,7 @@ fn write_lettered(letter: u8, number: u64, out: &mut Text) -> Result<(), NoMemor
 }
 
 /// Appends a node: `c7`, `s1`, `r0` or `cfg`.
-#[inline]
+#[inline(always)]
 pub fn write_node(node: Node, out: &mut Text) -> Result<(), NoMemory>
     ensures ok { OnOk result (out.new.items ≡ out.old.items ++ node_text node) }
     ensures err { OnErr result (out.new.items ≡ out.old.items) }
