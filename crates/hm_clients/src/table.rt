@@ -93,16 +93,6 @@ impl ClientTable {
         self.count = len;
     }
 
-    /// Forgets every entry.
-    pub fn clear(&mut self)
-        ensures empty { StandsFor self.new [] }
-        ensures cap { self.new.cap ≡ self.old.cap }
-    {
-        self.requests.clear();
-        self.clients.clear();
-        self.count = 0;
-    }
-
     /// The client's latest request.
     fn latest_of(&self, client: u32) -> Option<LatestRequest>
         ensures { result ≡ latest_of self.now client }

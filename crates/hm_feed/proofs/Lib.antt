@@ -1,1 +1,3 @@
+mod Bounds
 mod Quorums
+mod Reached

@@ -1,17 +1,26 @@
 -- What a follower answers to a page.
-use Rattle.std.specs.Prelude.{ℕ, ◌+◌, ◌-◌, Bool, true, false, ◌==◌, nat_lt, if◌then◌else◌, List, length, Option, Some, None, Result, Ok, Err}
+use Rattle.std.specs.Prelude.{ℕ, ◌+◌, ◌-◌, ◌≤◌, Bool, true, false, ◌==◌, nat_lt, if◌then◌else◌, List, ◌++◌, length, Option, Some, None, Result, Ok, Err, IfSome}
 use Rattle.hm_base.specs.declared.entry.Entry.{Entry}
 use Rattle.hm_base.specs.Taking as taking
 use Rattle.hm_base.specs.Taking.{Taken, held, take_page}
 use Rattle.hm_packet.specs.declared.body.Feed.{Feed}
-use Rattle.hm_shim.specs.State.{State}
+use Rattle.hm_shim.specs.State.{State, applied_entries}
 use Rattle.hm_feed.specs.declared.follower.Took.{Took}
 use Rattle.hm_feed.specs.declared.follower.Took.TheVariants as took
 
--- what contracts see of a follower: the staged list, if there is one, and how many entries it may have
+-- what contracts see of a follower: what is staged behind the applied prefix, if it stages, and how many entries that may be
 pub record Following : Type 0 where
-  pub staged : Option (List Entry)
+  pub behind : Option (List Entry)
   pub cap : ℕ
+
+-- the staged list: the applied prefix, and what stands behind it
+abbrev pub staged_on : State → Option (List Entry) → Option (List Entry)
+staged_on shim None = None
+staged_on shim (Some behind) = Some (applied_entries shim ++ behind)
+
+-- the staged list fits into the log
+abbrev pub HasRoom : State → Option (List Entry) → Type 0
+HasRoom shim behind = IfSome behind (λ list. shim.applied + length list ≤ shim.cap)
 
 abbrev pub staged_list : Bool → List Entry → Option (List Entry)
 staged_list staging list = if staging then Some list else None

@@ -1,5 +1,5 @@
 -- What contracts see of a sender of pages.
-use Rattle.std.specs.Prelude.{ℕ, Bool, false, not, ◌==◌, nat_le, if◌then◌else◌, List, map, filter, count_by, slice_index, slice_set, replicate, Option, Some, None}
+use Rattle.std.specs.Prelude.{ℕ, Bool, false, not, ◌==◌, nat_le, nat_lt, if◌then◌else◌, List, map, filter, count_by, slice_index, slice_set, replicate, Option, Some, None}
 use Rattle.hm_base.specs.declared.entry.Entry.{Entry}
 use Rattle.hm_base.specs.Logs.{page}
 use Rattle.hm_packet.specs.declared.body.Feed.{Feed}
@@ -51,3 +51,7 @@ count_reaching len lengths = count_by (λ l. nat_le len l) lengths
 abbrev pub supported : ℕ → List ℕ → Option ℕ → Option ℕ
 supported k lengths None = None
 supported k lengths (Some len) = if nat_le k (count_reaching len lengths) then Some len else None
+
+-- a length, where it is above a floor
+abbrev pub above : ℕ → ℕ → Option ℕ
+above floor len = if nat_lt floor len then Some len else None

@@ -1,6 +1,6 @@
 ghost use Rattle.std.specs.Prelude.{◌≡◌, ◌<◌, ◌≤◌, ◌+◌, ◌-◌, [], ◌∷◌, ◌++◌, length, take, drop, is_some, None, Some, IfOk, IfSome};
-ghost use Rattle.hm_base.specs.Lists.{IsPrefix};
 ghost use Rattle.hm_feed.specs.Answers as answers;
+ghost use Rattle.hm_feed.specs.Answers.{staged_on};
 ghost use Rattle.hm_shim.specs.State.{applied_entries};
 ghost use Rattle.hm_store.specs.Log.{max_log_len};
 
@@ -9,7 +9,7 @@ use hm_base::entry::Entry;
 use hm_base::memory::NoMemory;
 use hm_packet::body::Feed;
 use hm_shim::shim::Shim;
-use hm_store::ledger::Ledger;
+use hm_store::staged::Staged;
 use std::alloc::Global;
 use std::marker::Model;
 
@@ -30,11 +30,12 @@ pub enum Took {
     LogFull,
 }
 
-/// Takes pages of another's log. While it stages, they go into a list beside the log, which becomes the log once it reaches the
-/// start of the view. All memory is taken at opening. Contracts see the staged list, if there is one, and its capacity.
+/// Takes pages of another's log. While it stages, what is new in them goes into a list that is to stand behind the applied prefix:
+/// both become the log once they reach the start of the view. All memory is taken at opening. Contracts see what is staged behind
+/// the applied prefix, if it stages, and how many entries that may be.
 #[derive(Drop)]
 pub struct Follower {
-    list: Ledger,
+    list: Staged,
     staging: bool,
 }
 
@@ -43,41 +44,41 @@ impl Model for Follower {
 
     ghost Value = { Following };
 
-    ghost view = { λ f. record { staged = staged_list f.staging f.list.entries; cap = f.list.cap } };
+    ghost view = { λ f. record { behind = staged_list f.staging f.list.entries; cap = f.list.cap } };
 }
 
 impl Follower {
-    /// A follower that doesn't stage, with room for a staged list of `cap` entries.
+    ghost use Rattle.hm_feed.specs.Answers.{HasRoom, staged_on};
+
+    /// A follower that doesn't stage, with room for `cap` entries.
     pub fn open(alloc: Global, cap: u32) -> Result<Follower, NoMemory>
         requires { cap ≤ max_log_len }
-        ensures { IfOk result (λ f. f ≡ record { staged = None; cap = cap }) }
+        ensures { IfOk result (λ f. f ≡ record { behind = None; cap = cap }) }
     {
         Ok(Follower {
-            list: Ledger::open(alloc, cap)?,
+            list: Staged::open(alloc, cap)?,
             staging: false,
         })
     }
 
-    /// Begins to stage, with the first `known` entries of a log.
-    pub fn begin(&mut self, log: &Ledger, known: u32)
-        requires caps { log.now.cap ≡ self.old.cap }
-        requires within { known ≤ length log.now.entries }
-        ensures { self.new ≡ record self.old { staged = Some (take known log.now.entries) } }
+    /// Begins to stage, with the applied prefix alone.
+    pub fn begin(&mut self)
+        ensures { self.new ≡ record self.old { behind = Some [] } }
     {
-        self.list.copy_front(log, known);
+        self.list.clear();
         self.staging = true;
     }
 
     /// Stages no more.
     pub fn end(&mut self)
-        ensures { self.new ≡ record self.old { staged = None } }
+        ensures { self.new ≡ record self.old { behind = None } }
     {
         self.staging = false;
     }
 
-    /// Whether there is a staged list.
+    /// Whether it stages.
     pub fn staging(&self) -> bool
-        ensures { result ≡ is_some self.now.staged }
+        ensures { result ≡ is_some self.now.behind }
     {
         self.staging
     }
@@ -86,10 +87,12 @@ impl Follower {
     /// behind the end, then LogFull where it reaches past the log's bound; both change nothing.
     pub fn take(&mut self, shim: &mut Shim, feed: &Feed) -> Took
         requires caps { self.old.cap ≡ shim.old.cap }
-        requires begins { IfSome self.old.staged (λ list. IsPrefix (applied_entries shim.old) list) }
-        ensures log { shim.new ≡ record shim.old { entries = (answers.taken shim.old self.old.staged feed.now).log } }
-        ensures staged { self.new ≡ record self.old { staged = (answers.taken shim.old self.old.staged feed.now).staged } }
-        ensures took { result ≡ answers.answer (answers.taken shim.old self.old.staged feed.now) }
+        requires room { HasRoom shim.old self.old.behind }
+        ensures log { shim.new ≡ record shim.old { entries = (answers.taken shim.old (staged_on shim.old self.old.behind) feed.now).log } }
+        ensures staged { staged_on shim.new self.new.behind ≡ (answers.taken shim.old (staged_on shim.old self.old.behind) feed.now).staged }
+        ensures room { HasRoom shim.new self.new.behind }
+        ensures cap { self.new.cap ≡ self.old.cap }
+        ensures took { result ≡ answers.answer (answers.taken shim.old (staged_on shim.old self.old.behind) feed.now) }
     {
         if !self.staging {
             return take(shim, feed);
@@ -115,38 +118,38 @@ pub fn take(shim: &mut Shim, feed: &Feed) -> Took
     }
 }
 
-/// Takes a page into a staged list.
-fn stage(staged: &mut Ledger, shim: &mut Shim, feed: &Feed) -> Took
+/// Takes a page into the list that is staged behind the applied prefix.
+fn stage(staged: &mut Staged, shim: &mut Shim, feed: &Feed) -> Took
     requires caps { staged.old.cap ≡ shim.old.cap }
-    requires begins { IsPrefix (applied_entries shim.old) staged.old.entries }
-    ensures log { shim.new ≡ record shim.old { entries = (answers.taken shim.old (Some staged.old.entries) feed.now).log } }
-    ensures staged { answers.staged_list (answers.stages_on result) staged.new.entries ≡ (answers.taken shim.old (Some staged.old.entries) feed.now).staged }
+    requires room { shim.old.applied + length staged.old.entries ≤ shim.old.cap }
+    ensures log { shim.new ≡ record shim.old { entries = (answers.taken shim.old (Some (applied_entries shim.old ++ staged.old.entries)) feed.now).log } }
+    ensures staged { staged_on shim.new (answers.staged_list (answers.stages_on result) staged.new.entries) ≡ (answers.taken shim.old (Some (applied_entries shim.old ++ staged.old.entries)) feed.now).staged }
+    ensures room { shim.new.applied + length staged.new.entries ≤ shim.new.cap }
     ensures cap { staged.new.cap ≡ staged.old.cap }
-    ensures took { result ≡ answers.answer (answers.taken shim.old (Some staged.old.entries) feed.now) }
+    ensures took { result ≡ answers.answer (answers.taken shim.old (Some (applied_entries shim.old ++ staged.old.entries)) feed.now) }
 {
-    match new_from(feed, staged.len(), staged.cap()) {
+    let held = shim.staged_len(staged);
+    match new_from(feed, held, shim.log().cap()) {
         Err(refusal) => refusal,
         Ok(from) => {
-            extend_list(staged, new_of(&feed.entries, from));
+            staged.extend(new_of(&feed.entries, from));
             adopt_from(feed.start, staged, shim)
         }
     }
 }
 
 /// A staged list that has reached the start of the view becomes the log.
-fn adopt_from(start: u32, staged: &mut Ledger, shim: &mut Shim) -> Took
-    requires caps { staged.old.cap ≡ shim.old.cap }
-    requires begins { IsPrefix (applied_entries shim.old) staged.old.entries }
-    ensures log { shim.new ≡ record shim.old { entries = (answers.staged_from shim.old staged.old.entries start).log } }
-    ensures staged { answers.staged_list (answers.stages_on result) staged.new.entries ≡ (answers.staged_from shim.old staged.old.entries start).staged }
-    ensures cap { staged.new.cap ≡ staged.old.cap }
-    ensures took { result ≡ answers.answer (answers.staged_from shim.old staged.old.entries start) }
+fn adopt_from(start: u32, staged: &Staged, shim: &mut Shim) -> Took
+    requires { shim.old.applied + length staged.now.entries ≤ shim.old.cap }
+    ensures log { shim.new ≡ record shim.old { entries = (answers.staged_from shim.old (applied_entries shim.old ++ staged.now.entries) start).log } }
+    ensures staged { staged_on shim.new (answers.staged_list (answers.stages_on result) staged.now.entries) ≡ (answers.staged_from shim.old (applied_entries shim.old ++ staged.now.entries) start).staged }
+    ensures took { result ≡ answers.answer (answers.staged_from shim.old (applied_entries shim.old ++ staged.now.entries) start) }
 {
-    let len = staged.len();
+    let len = shim.staged_len(staged);
     if len < start {
         return Took::Staged(len);
     }
-    shim.adopt(staged);
+    shim.adopt(staged.as_slice());
     Took::Adopted(len)
 }
 
@@ -193,15 +196,5 @@ fn extend(shim: &mut Shim, entries: &[Entry])
 {
     for entry in entries {
         let _ = shim.append(*entry);
-    }
-}
-
-/// Puts entries behind a list, which has room for them.
-fn extend_list(list: &mut Ledger, entries: &[Entry])
-    requires { length list.old.entries + length entries.now ≤ list.old.cap }
-    ensures { list.new ≡ record list.old { entries = list.old.entries ++ entries.now } }
-{
-    for entry in entries {
-        let _ = list.push(*entry);
     }
 }

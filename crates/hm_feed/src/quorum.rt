@@ -1,12 +1,32 @@
-ghost use Rattle.std.specs.Prelude.{◌≡◌, max, unwrap_or, slice_get};
+ghost use Rattle.std.specs.Prelude.{◌≡◌, ◌≤◌, ℕ, All, IfSome, max, unwrap_or, slice_get};
 ghost use Rattle.hm_base.specs.Taking as taking;
 ghost use Rattle.hm_feed.specs.Sending as sending;
 
 use crate::sender::Sender;
 use hm_base::members::Members;
 
+/// The greatest length that at least so many members other than this one acknowledged, where it is above a floor. Mostly it isn't,
+/// and one look at each member tells that.
+pub(crate) fn held_above(
+    sender: &Sender,
+    members: &Members,
+    me: u8,
+    k: u8,
+    floor: u32,
+) -> Option<u32>
+    ensures value { result ≡ sending.above floor (taking.held_by k (sending.others_acked sender.now me members.now)) }
+    ensures within { (most : ℕ) → All (λ n. n ≤ most) sender.now.acked → IfSome result (λ len. len ≤ most) }
+{
+    let next = floor.saturating_add(1);
+    if count_reaching(sender, members, me, next) < u32::from(k) {
+        return None;
+    }
+    let len = held_by(sender, members, me, k);
+    if floor < len { Some(len) } else { None }
+}
+
 /// The greatest length that at least so many members other than this one acknowledged, 0 where there is none.
-pub(crate) fn held_by(sender: &Sender, members: &Members, me: u8, k: u8) -> u32
+fn held_by(sender: &Sender, members: &Members, me: u8, k: u8) -> u32
     ensures { result ≡ taking.held_by k (sending.others_acked sender.now me members.now) }
 {
     let mut greatest = 0u32;

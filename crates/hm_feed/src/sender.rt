@@ -1,8 +1,8 @@
-ghost use Rattle.std.specs.Prelude.{◌≡◌, ◌<◌, ◌≤◌, ◌↔◌, IsTrue, if◌then◌else◌};
+ghost use Rattle.std.specs.Prelude.{◌≡◌, ℕ, All, IfSome, ◌<◌, ◌≤◌, ◌↔◌, IsTrue, if◌then◌else◌};
 ghost use Rattle.hm_base.specs.Taking as taking;
 ghost use Rattle.hm_feed.specs.Sending as sending;
 
-use crate::quorum::held_by;
+use crate::quorum::held_above;
 use hm_base::members::Members;
 use hm_packet::body::Feed;
 use hm_store::ledger::Ledger;
@@ -97,10 +97,11 @@ impl Sender {
         self.acked[to as usize]
     }
 
-    /// The greatest length that at least `k` members other than `me` acknowledged, 0 where there is none.
-    pub fn held_by(&self, members: &Members, me: u8, k: u8) -> u32
-        ensures { result ≡ taking.held_by k (sending.others_acked self.now me members.now) }
+    /// The greatest length that at least `k` members other than `me` acknowledged, where it is above a floor.
+    pub fn held_above(&self, members: &Members, me: u8, k: u8, floor: u32) -> Option<u32>
+        ensures value { result ≡ sending.above floor (taking.held_by k (sending.others_acked self.now me members.now)) }
+        ensures within { (most : ℕ) → All (λ n. n ≤ most) self.now.acked → IfSome result (λ len. len ≤ most) }
     {
-        held_by(self, members, me, k)
+        held_above(self, members, me, k, floor)
     }
 }

@@ -1,5 +1,6 @@
-ghost use Rattle.std.specs.Prelude.{◌≡◌, ◌≤◌, ◌+◌, ◌↔◌, ◌++◌, ◌==◌, [], true, false, None, length, map, slice_get, slice_index, All, IfOk, IsTrue};
+ghost use Rattle.std.specs.Prelude.{◌≡◌, ◌≤◌, ◌+◌, ◌↔◌, ◌++◌, ◌==◌, [], true, false, None, length, map, slice_get, slice_index, All, IfOk, IfSome, IsTrue};
 ghost use Rattle.std.specs.List.{list_any};
+ghost use Rattle.hm_feed.specs.Sending.{above};
 ghost use Rattle.hm_primary_backup.specs.Parts as parts;
 ghost use Rattle.hm_replica.specs.Given.{Gives};
 ghost use Rattle.hm_replica.specs.Steps.{step_of};
@@ -363,8 +364,8 @@ impl Primary {
     {
         self.members = config.members.copy();
         self.sender.enter(config.view);
-        self.follower
-            .begin(self.shim.log(), self.shim.log().applied_len());
+        let _len = self.shim.log().len();
+        self.follower.begin();
         send_none(acted);
     }
 
@@ -395,24 +396,27 @@ impl Primary {
         ensures primary { rules.is_primary self.new ≡ true }
     {
         send_none(acted);
-        let to = self.held_by_all();
         let known = self.shim.log().applied_len();
-        if self.sender.start() <= to && known < to {
-            declare(acted, self.me, &mut self.shim, known, to);
+        match self.to_commit(known) {
+            Some(to) if self.sender.start() <= to => {
+                declare(acted, self.me, &mut self.shim, known, to);
+            }
+            _ => {}
         }
     }
 
-    /// How much of the log all other members hold, all of it where there are none.
-    fn held_by_all(&self) -> u32
+    /// How much of the log all other members hold, all of it where there are none, where that is more than is known.
+    fn to_commit(&self, known: u32) -> Option<u32>
         requires { rules.is_primary self.now ≡ true }
-        ensures value { result ≡ steps.quorum_len self.now (length (others self.now)) }
-        ensures within { result ≤ length self.now.log }
+        ensures value { result ≡ above known (steps.quorum_len self.now (length (others self.now))) }
+        ensures within { IfSome result (λ len. len ≤ length self.now.log) }
     {
         let count = count_others(&self.members, self.me);
-        if count == 0 {
-            return self.shim.log().len();
+        if count > 0 {
+            return self.sender.held_above(&self.members, self.me, count, known);
         }
-        self.sender.held_by(&self.members, self.me, count)
+        let len = self.shim.log().len();
+        if known < len { Some(len) } else { None }
     }
 
     /// Puts the page to each other member behind the packets.

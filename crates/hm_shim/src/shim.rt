@@ -17,6 +17,7 @@ use hm_base::why::Why;
 use hm_clients::table::ClientTable;
 use hm_packet::body::{FastRead, Put, Reply};
 use hm_store::ledger::{Ledger, LogFull};
+use hm_store::staged::Staged;
 use std::alloc::Global;
 use std::marker::Model;
 
@@ -151,22 +152,28 @@ impl Shim {
         Ok(())
     }
 
-    /// The staged list becomes the log, with the client table of that log, and the staged list becomes empty. A log and its
+    /// How long the log is that the applied prefix and the staged entries behind it make.
+    pub fn staged_len(&self, staged: &Staged) -> u32
+        requires { self.now.applied + length staged.now.entries ≤ self.now.cap }
+        ensures len { result ≡ length (applied_entries self.now ++ staged.now.entries) }
+        ensures sum { result ≡ self.now.applied + length staged.now.entries }
+    {
+        let _cap = self.log.cap();
+        self.log.applied_len() + staged.len()
+    }
+
+    /// The log becomes its applied prefix with the staged entries behind it, with the client table of that log. A log and its
     /// table are one: a request that only the old log had is new again (Liskov and Cowling: the table goes with the log).
-    pub fn adopt(&mut self, staged: &mut Ledger)
-        requires caps { staged.old.cap ≡ self.old.cap }
-        requires begins { IsPrefix (applied_entries self.old) staged.old.entries }
-        ensures log { self.new ≡ record self.old { entries = staged.old.entries } }
-        ensures staged { staged.new ≡ record staged.old { entries = []; applied = 0 } }
+    pub fn adopt(&mut self, staged: &[Entry])
+        requires { self.old.applied + length staged.now ≤ self.old.cap }
+        ensures { self.new ≡ record self.old { entries = applied_entries self.old ++ staged.now } }
     {
         let applied = self.log.applied_len();
-        self.log.replace(staged);
+        self.log.truncate(applied);
         self.clients.truncate(applied);
-        note_all(
-            &mut self.clients,
-            applied,
-            self.log.entries(applied, self.log.len()),
-        );
+        for entry in staged {
+            let _ = self.append(*entry);
+        }
     }
 
     /// Applies the log up to `k` entries.
@@ -176,19 +183,6 @@ impl Shim {
         ensures { self.new ≡ record self.old { applied = k } }
     {
         self.log.apply_to(k);
-    }
-}
-
-/// Notes each entry behind the first ones of a log, of which there are so many, with its index.
-fn note_all(clients: &mut ClientTable, first: u32, entries: &[Entry])
-    requires next { first ≡ clients.old.count }
-    requires room { first + length entries.now ≤ clients.old.cap }
-    requires few { first + length entries.now < 2 ^ 32 }
-    ensures noted { (front : List Entry) → StandsFor clients.old front → StandsFor clients.new (front ++ entries.now) }
-    ensures cap { clients.new.cap ≡ clients.old.cap }
-{
-    for (place, entry) in entries.iter().enumerate() {
-        clients.note(entry, first + place as u32);
     }
 }
 

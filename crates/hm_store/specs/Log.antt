@@ -11,6 +11,11 @@ pub record Log : Type 0 where
   pub applied : ℕ
   pub cap : ℕ
 
+-- what is staged behind an applied prefix, and how many entries that may be
+pub record Behind : Type 0 where
+  pub entries : List Entry
+  pub cap : ℕ
+
 -- the applied prefix
 abbrev pub applied_entries : Log → List Entry
 applied_entries log = take log.applied log.entries

@@ -72,15 +72,6 @@ impl LastPlaces {
         self.links.push_reserved(Link { key, before });
     }
 
-    /// Takes all keys out.
-    pub fn clear(&mut self)
-        ensures items { self.new.items ≡ [] }
-        ensures cap { self.new.cap ≡ self.old.cap }
-    {
-        self.links.clear();
-        self.heads.fill(0);
-    }
-
     /// Keeps the first `len` places, and takes the others out.
     pub fn truncate(&mut self, len: u32)
         requires { len ≤ length self.old.items }
@@ -104,17 +95,6 @@ impl LastPlaces {
         if let Some(key) = link.key {
             self.heads[bucket_of(key)] = link.before;
         }
-    }
-
-    /// This list becomes as another one, which has room for as many keys.
-    pub fn copy_from(&mut self, from: &LastPlaces)
-        requires { from.now.cap ≡ self.old.cap }
-        ensures { self.new ≡ from.now }
-    {
-        self.heads.copy_from_slice(&from.heads);
-        self.links.clear();
-        let copied: Result<_, _> = self.links.extend_from_slice(&from.links);
-        copied.unwrap();
     }
 
     /// The last place of a key among the first `end` places, counted from 0. None exactly where none of them has it.

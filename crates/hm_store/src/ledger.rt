@@ -12,7 +12,6 @@ use hm_base::stamp::Stamp;
 use hm_base::value::Value;
 use std::alloc::Global;
 use std::marker::Model;
-use std::mem::swap;
 
 /// The greatest number of entries that a log may have.
 pub const MAX_LOG_LEN: u32 = 16_384;
@@ -112,32 +111,14 @@ impl Ledger {
         self.applied_len = k;
     }
 
-    /// This log becomes the staged list, its applied prefix stays, and the staged list becomes empty.
-    pub fn replace(&mut self, staged: &mut Ledger)
-        requires caps { staged.old.cap ≡ self.old.cap }
-        requires begins { IsPrefix (applied_entries self.old) staged.old.entries }
-        ensures log { self.new ≡ record self.old { entries = staged.old.entries } }
-        ensures staged { staged.new ≡ record staged.old { entries = []; applied = 0 } }
+    /// Keeps the first `k` entries, all of the applied ones among them.
+    pub fn truncate(&mut self, k: u32)
+        requires applied { self.old.applied ≤ k }
+        requires within { k ≤ length self.old.entries }
+        ensures { self.new ≡ record self.old { entries = take k self.old.entries } }
     {
-        swap(&mut self.entries, &mut staged.entries);
-        swap(&mut self.writes, &mut staged.writes);
-        staged.entries.clear();
-        staged.writes.clear();
-        staged.applied_len = 0;
-    }
-
-    /// This log becomes the first `k` entries of another, and nothing is applied.
-    pub fn copy_front(&mut self, from: &Ledger, k: u32)
-        requires caps { from.now.cap ≡ self.old.cap }
-        requires within { k ≤ length from.now.entries }
-        ensures { self.new ≡ record self.old { entries = take k from.now.entries; applied = 0 } }
-    {
-        self.entries.clear();
-        let copied: Result<_, _> = self.entries.extend_from_slice(&from.entries[..k as usize]);
-        copied.unwrap();
-        self.writes.copy_from(&from.writes);
+        self.entries.truncate(k as usize);
         self.writes.truncate(k);
-        self.applied_len = 0;
     }
 
     /// The stamp and value of the object's last write in the log. None exactly where it has none.

@@ -3,3 +3,4 @@
 
 pub mod last_places;
 pub mod ledger;
+pub mod staged;

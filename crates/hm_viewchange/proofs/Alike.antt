@@ -18,7 +18,7 @@ use Rattle.hm_viewchange.specs.declared.vr_core.VrStatus.{VrStatus}
 use Rattle.hm_viewchange.specs.declared.vr_core.VrStatus.TheVariants as status
 use Rattle.hm_viewchange.specs.Changing.{Changing}
 use Rattle.hm_viewchange.specs.Parts.{stands}
-use Rattle.hm_viewchange.specs.Standing.{status_of, staged_in, replica_of, acked_after, IsStep}
+use Rattle.hm_viewchange.specs.Standing.{status_of, staged_in, pulled_list, replica_of, acked_after, IsStep}
 
 abbrev staged_by : Status → Option (List Entry) → Option (List Entry) → Option (List Entry)
 staged_by Status.Normal fed staged = staged
@@ -48,7 +48,7 @@ staged_alike status.Pulling fed pulled = refl
 staged_alike status.Staging fed pulled = refl
 
 pub stands_dressed : (acked : List ℕ) (fed : Option (List Entry)) (core : VrCore) (change : Changing) → replica_of acked fed core change ≡ dressed acked fed (stands core change)
-stands_dressed acked fed core change = ap (λ (staged : Option (List Entry)). record (replica_of acked fed core change) { staged = staged }) (staged_alike core.status fed change.staged)
+stands_dressed acked fed core change = ap (λ (staged : Option (List Entry)). record (replica_of acked fed core change) { staged = staged }) (staged_alike core.status fed (pulled_list core change))
 
 kept_alike : (d : Did) (now : VrStatus) (acked : List ℕ) → acked_after d now acked ≡ kept_after d (status_of now) acked
 kept_alike did.Done status.Normal acked = refl

@@ -5,7 +5,7 @@ use Rattle.hm_viewchange.specs.declared.view_change.ViewChange.TheInside.{Inside
 use Rattle.hm_viewchange.specs.Changing.{Changing}
 
 abbrev pub changing_of : Inside → Changing
-changing_of v = record { heard = v.heard; votes = v.votes; choice = v.choice; staged = v.staged.entries; cap = v.staged.cap }
+changing_of v = record { heard = v.heard; votes = v.votes; choice = v.choice; behind = v.staged.entries; cap = v.staged.cap }
 
 abbrev pub HasRoom : ℕ → Option Vote → Type 0
 HasRoom cap vote = IfSome vote (λ v. v.len ≤ cap)

@@ -1,8 +1,7 @@
 -- Which replica of the rules a core and a view change together stand for, and what a call of a view change owes.
-use Rattle.std.specs.Prelude.{◌≡◌, ℕ, ◌%◌, ◌<◌, ◌≤◌, List, length, Option, Some, None}
+use Rattle.std.specs.Prelude.{◌≡◌, ℕ, ◌+◌, ◌%◌, ◌<◌, ◌≤◌, List, ◌++◌, length, Option, Some, None}
 use Rattle.hm_base.specs.declared.entry.Entry.{Entry}
 use Rattle.hm_base.specs.declared.why.Why.{Why}
-use Rattle.hm_base.specs.Lists.{IsPrefix}
 use Rattle.hm_codec.specs.declared.acted.Acted.{Acted}
 use Rattle.hm_packet.specs.declared.acted.Did.{Did}
 use Rattle.hm_packet.specs.declared.acted.Did.TheVariants as did
@@ -29,6 +28,10 @@ staged_in status.Staging fed pulled = fed
 staged_in status.Pulling fed pulled = Some pulled
 staged_in other fed pulled = None
 
+-- what is pulled so far: the applied prefix, and what is staged behind it
+abbrev pub pulled_list : VrCore → Changing → List Entry
+pulled_list core change = applied_entries core.shim ++ change.behind
+
 -- What others acknowledged, and what a backup stages, is kept elsewhere and told.
 abbrev pub replica_of : List ℕ → Option (List Entry) → VrCore → Changing → Replica
 replica_of acked fed core change = record {
@@ -36,7 +39,7 @@ replica_of acked fed core change = record {
   members = numbers_from 0 core.size;
   cap = core.shim.cap;
   log = core.shim.entries;
-  staged = staged_in core.status fed change.staged;
+  staged = staged_in core.status fed (pulled_list core change);
   view = core.view;
   start = core.start;
   known = core.shim.applied;
@@ -67,8 +70,8 @@ pub record Fits (core : VrCore) (change : Changing) : Type 0 where
   pub size : core.size ≤ 7
   pub odd : core.size % 2 ≡ 1
   pub caps : change.cap ≡ core.shim.cap
-  -- a list that is pulled begins with what is applied
-  pub begins : core.status ≡ status.Pulling → IsPrefix (applied_entries core.shim) change.staged
+  -- a list that is pulled fits into the log
+  pub room : core.status ≡ status.Pulling → core.shim.applied + length change.behind ≤ core.shim.cap
 
 -- the replica is the same one, and its core and its view change still fit
 pub record Stays (old new : VrCore) (after : Changing) : Type 0 where

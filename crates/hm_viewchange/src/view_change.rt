@@ -1,5 +1,4 @@
 ghost use Rattle.std.specs.Prelude.{◌≡◌, ◌<◌, ◌≤◌, ◌+◌, ◌++◌, ◌&&◌, false, not, nat_lt, nat_le, length, drop, count_by, slice_get, slice_set, is_some, IfOk, IfSome, Some, Option, List, ℕ};
-ghost use Rattle.hm_base.specs.Lists.{IsPrefix};
 ghost use Rattle.hm_packet.specs.Steps.{max_outs};
 ghost use Rattle.hm_replica.specs.Steps.{step_of, sends_act};
 ghost use Rattle.hm_rules.specs.Replica.{Status};
@@ -12,7 +11,7 @@ ghost use Rattle.hm_viewchange.specs.Ballots.{ballot_of, ballot_in};
 ghost use Rattle.hm_viewchange.specs.Changing.{idle};
 ghost use Rattle.hm_viewchange.specs.Parts as parts;
 ghost use Rattle.hm_viewchange.specs.Parts.{bare, stands};
-ghost use Rattle.hm_viewchange.specs.Standing.{replica_of, status_of, IsStep, Fits, Stays, Leaves};
+ghost use Rattle.hm_viewchange.specs.Standing.{replica_of, pulled_list, status_of, IsStep, Fits, Stays, Leaves};
 
 use crate::group::{faults, group_size, primary_of};
 use crate::packets::{own_vote, page_packet, pull_packet, push_starts, vote_packet};
@@ -25,18 +24,18 @@ use hm_codec::acted::Acted;
 use hm_codec::outs::Outs;
 use hm_packet::body::{Page, Pull, StartViewChange, Vote};
 use hm_replica::acts::{ignore, push, send_none, send_one};
-use hm_store::ledger::Ledger;
+use hm_store::staged::Staged;
 use std::alloc::Global;
 use std::marker::Model;
 
 /// What a replica keeps while its view is being changed: who was heard to enter the view, who voted in it, whose log is pulled, and
-/// the list into which that is staged. All memory is taken at opening. Contracts see the record of its fields.
+/// what of that is staged behind the applied prefix. All memory is taken at opening. Contracts see the record of its fields.
 #[derive(Drop)]
 pub struct ViewChange {
     heard: [bool; MAX_REPLICAS],
     votes: [Option<Vote>; MAX_REPLICAS],
     choice: Option<u8>,
-    staged: Ledger,
+    staged: Staged,
 }
 
 impl Model for ViewChange {
@@ -61,7 +60,7 @@ impl ViewChange {
             heard: [false; MAX_REPLICAS],
             votes: [None; MAX_REPLICAS],
             choice: None,
-            staged: Ledger::open(alloc, cap)?,
+            staged: Staged::open(alloc, cap)?,
         })
     }
 
@@ -321,7 +320,7 @@ impl ViewChange {
         }
     }
 
-    /// Stages the chosen log from what is applied, and pulls it unless that is all of it.
+    /// Stages the chosen log behind what is applied, and pulls it unless that is all of it.
     fn fetch(&mut self, core: &mut VrCore, chosen: &Ballot, outs: &mut Outs)
         requires fits { Fits core.old self.old }
         requires chosen { chosen.now.voter ≤ 6 }
@@ -331,7 +330,8 @@ impl ViewChange {
         ensures few { length outs.new ≤ length outs.old + 1 }
     {
         let known = core.shim.log().applied_len();
-        self.staged.copy_front(core.shim.log(), known);
+        let _len = core.shim.log().len();
+        self.staged.clear();
         if known == chosen.vote.len {
             return self.adopt(core);
         }
@@ -343,11 +343,11 @@ impl ViewChange {
     /// The staged list becomes the log, with its client table, and the view begins with it.
     fn adopt(&mut self, core: &mut VrCore)
         requires fits { Fits core.old self.old }
-        requires begins { IsPrefix (applied_entries core.old.shim) self.old.staged }
-        ensures begun { stands core.new self.new ≡ rules.begun_with self.old.staged (stands core.old self.old) }
+        requires room { core.old.shim.applied + length self.old.behind ≤ core.old.shim.cap }
+        ensures begun { stands core.new self.new ≡ rules.begun_with (pulled_list core.old self.old) (stands core.old self.old) }
         ensures stays { Stays core.old core.new self.new }
     {
-        core.shim.adopt(&mut self.staged);
+        core.shim.adopt(self.staged.as_slice());
         self.begin(core);
     }
 
@@ -393,11 +393,11 @@ impl ViewChange {
         requires pulling { core.old.status ≡ VrStatus.Pulling }
         requires voter { chosen.now.voter ≤ 6 }
         requires room { chosen.now.vote.len ≤ self.old.cap }
-        ensures step { step_of (stands core.new self.new) acted.new ≡ rules.takes_page (stands core.old self.old) from page.now self.old.staged (Some (ballot_of chosen.now)) }
+        ensures step { step_of (stands core.new self.new) acted.new ≡ rules.takes_page (stands core.old self.old) from page.now (pulled_list core.old self.old) (Some (ballot_of chosen.now)) }
         ensures leaves { Leaves core.old self.old core.new self.new acted.new }
     {
         let end = u64::from(page.first) + u64::from(page.entries.len());
-        let held = self.staged.len();
+        let held = self.held(core);
         if u32::from(chosen.voter) != from || end > u64::from(chosen.vote.len) {
             return ignore(acted, Why::Foreign);
         }
@@ -408,8 +408,18 @@ impl ViewChange {
             return ignore(acted, Why::Repeat);
         }
         send_none(acted);
-        extend(&mut self.staged, new_of(page, held - page.first));
+        self.staged.extend(new_of(page, held - page.first));
         self.pull_on(core, chosen, &mut acted.outs);
+    }
+
+    /// How much of the chosen log is there.
+    fn held(&self, core: &VrCore) -> u32
+        requires fits { Fits core.now self.now }
+        requires pulling { core.now.status ≡ VrStatus.Pulling }
+        ensures len { result ≡ length (pulled_list core.now self.now) }
+        ensures sum { result ≡ core.now.shim.applied + length self.now.behind }
+    {
+        core.shim.staged_len(&self.staged)
     }
 
     /// Begins the view with the staged list where that is as long as the chosen vote says, else pulls what is missing.
@@ -418,11 +428,11 @@ impl ViewChange {
         requires pulling { core.old.status ≡ VrStatus.Pulling }
         requires voter { chosen.now.voter ≤ 6 }
         requires room { length outs.old < max_outs }
-        ensures sent { steps.sends (stands core.new self.new) outs.new ≡ steps.sends_first outs.old (rules.pulled (stands core.old self.old) chosen.now.voter chosen.now.vote.len self.old.staged) }
+        ensures sent { steps.sends (stands core.new self.new) outs.new ≡ steps.sends_first outs.old (rules.pulled (stands core.old self.old) chosen.now.voter chosen.now.vote.len (pulled_list core.old self.old)) }
         ensures stays { Stays core.old core.new self.new }
         ensures few { length outs.new ≤ length outs.old + 1 }
     {
-        let held = self.staged.len();
+        let held = self.held(core);
         if held == chosen.vote.len {
             return self.adopt(core);
         }
@@ -450,7 +460,7 @@ impl ViewChange {
         ensures { outs.new ≡ outs.old ++ rules.again (stands core.now self.now) Status.Pulling }
     {
         if let Some(chosen) = self.choice {
-            push(outs, &pull_packet(core, chosen, self.staged.len()));
+            push(outs, &pull_packet(core, chosen, self.held(core)));
         }
     }
 }
@@ -511,14 +521,4 @@ fn new_of<'a>(page: &Page<'a>, from: u32) -> &'a [Entry]
 {
     let all = page.entries.as_slice();
     &all[all.len().min(from as usize)..]
-}
-
-/// Puts entries behind a list, which has room for them.
-fn extend(list: &mut Ledger, entries: &[Entry])
-    requires { length list.old.entries + length entries.now ≤ list.old.cap }
-    ensures { list.new ≡ record list.old { entries = list.old.entries ++ entries.now } }
-{
-    for entry in entries {
-        let _ = list.push(*entry);
-    }
 }

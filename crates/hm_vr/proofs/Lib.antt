@@ -1,4 +1,3 @@
 mod Others
-mod Bounds
 mod Changes
 mod Standings

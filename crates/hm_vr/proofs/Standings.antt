@@ -6,7 +6,7 @@ use Rattle.std.proofs.lemmas.List.Elements.{All-replicate}
 use Rattle.hm_base.specs.declared.entry.Entry.{Entry}
 use Rattle.hm_base.specs.declared.why.Why.{Why}
 use Rattle.hm_codec.specs.declared.acted.Acted.{Acted}
-use Rattle.hm_feed.specs.Answers.{Following}
+use Rattle.hm_feed.specs.Answers.{Following, staged_on}
 use Rattle.hm_feed.specs.Sending.{Sending}
 use Rattle.hm_packet.specs.declared.acted.Did.{Did}
 use Rattle.hm_packet.specs.declared.acted.Did.TheVariants as did
@@ -20,7 +20,7 @@ use Rattle.hm_viewchange.specs.Changing.{Changing}
 use Rattle.hm_viewchange.specs.declared.vr_core.VrCore.{VrCore}
 use Rattle.hm_viewchange.specs.declared.vr_core.VrStatus.{VrStatus}
 use Rattle.hm_viewchange.specs.declared.vr_core.VrStatus.TheVariants as status
-use Rattle.hm_viewchange.specs.Standing.{replica_of, status_of, staged_in, acked_after, IsStep, Leaves}
+use Rattle.hm_viewchange.specs.Standing.{replica_of, status_of, staged_in, pulled_list, acked_after, IsStep, Leaves}
 use Rattle.hm_vr.specs.declared.vr.Vr.TheInside.{Inside}
 use Rattle.hm_vr.specs.Parts.{sender_after, follower_after, Begins}
 use Rattle.hm_vr.specs.Standing.{vr_of, IsKept}
@@ -65,13 +65,12 @@ acked_same did.Done status.Staging view start before = refl
 acked_same (did.Ignored reason) s view start before = refl
 acked_same did.LogFull s view start before = refl
 
-staged_same : (d : Did) (s : VrStatus) (before : Following) (pulled : List Entry) → staged_in s (follower_after d s before).staged pulled ≡ staged_in s before.staged pulled
-staged_same d status.Normal before pulled = refl
-staged_same d status.Change before pulled = refl
-staged_same d status.Pulling before pulled = refl
-staged_same did.Done status.Staging before pulled = refl
-staged_same (did.Ignored reason) status.Staging before pulled = refl
-staged_same did.LogFull status.Staging before pulled = refl
+-- what a backup stages counts while the status is Staging alone
+unread : (s : VrStatus) (fed other : Option (List Entry)) (pulled : List Entry) → (s ≡ status.Staging → ⊥) → staged_in s fed pulled ≡ staged_in s other pulled
+unread status.Normal fed other pulled apart = refl
+unread status.Change fed other pulled apart = refl
+unread status.Pulling fed other pulled apart = refl
+unread status.Staging fed other pulled apart = absurd (apart refl)
 
 cap_same : (d : Did) (s : VrStatus) (before : Following) → (follower_after d s before).cap ≡ before.cap
 cap_same did.Done status.Normal before = refl
@@ -83,12 +82,21 @@ cap_same did.LogFull s before = refl
 
 -- the replica as the view change sees it
 abbrev seen : Inside → VrCore → Changing → Did → Replica
-seen v core change d = replica_of (acked_after d core.status v.sender.acked) v.follower.staged core change
+seen v core change d = replica_of (acked_after d core.status v.sender.acked) (staged_on v.core.shim v.follower.behind) core change
 
-seen_is : (v : Inside) (core : VrCore) (change : Changing) (d : Did) → vr_of (after v core change d) ≡ seen v core change d
-seen_is v core change d =
-    ap (λ (a : List ℕ). replica_of a (follower_after d core.status v.follower).staged core change) (acked_same d core.status core.view core.start v.sender)
-    ∙ ap (λ (l : Option (List Entry)). record (seen v core change d) { staged = l }) (staged_same d core.status v.follower change.staged)
+staged_same : (v : Inside) (core : VrCore) (change : Changing) (acted : Acted) → Leaves v.core v.change core change acted → Ends (step_of (seen v core change acted.did) acted)
+    → staged_in core.status (staged_on core.shim (follower_after acted.did core.status v.follower).behind) (pulled_list core change) ≡ staged_in core.status (staged_on v.core.shim v.follower.behind) (pulled_list core change)
+staged_same v core change acted leaves (inl fine) =
+    unread core.status (staged_on core.shim (follower_after acted.did core.status v.follower).behind) (staged_on v.core.shim v.follower.behind) (pulled_list core change) (λ is. leaves.staging fine.done is)
+staged_same v core change acted leaves (inr quiet) =
+    ap (λ (d : Did). staged_in core.status (staged_on core.shim (follower_after d core.status v.follower).behind) (pulled_list core change)) quiet.is
+    ∙ ap (λ (k : VrCore). staged_in core.status (staged_on k.shim v.follower.behind) (pulled_list core change)) (leaves.core quiet.reason quiet.is)
+
+seen_is : (v : Inside) (core : VrCore) (change : Changing) (acted : Acted) → Leaves v.core v.change core change acted → Ends (step_of (seen v core change acted.did) acted)
+    → vr_of (after v core change acted.did) ≡ seen v core change acted.did
+seen_is v core change acted leaves ends =
+    ap (λ (a : List ℕ). replica_of a (staged_on core.shim (follower_after acted.did core.status v.follower).behind) core change) (acked_same acted.did core.status core.view core.start v.sender)
+    ∙ ap (λ (l : Option (List Entry)). record (seen v core change acted.did) { staged = l }) (staged_same v core change acted leaves ends)
 
 -- ---- what holds then
 
@@ -100,7 +108,7 @@ kept_done v core change acted kept leaves done owned = record {
   caps = cap_same did.Done core.status v.follower ∙ kept.caps ∙ sym leaves.stays.cap;
   pulling = λ is. owned (ap (λ (s : VrStatus). is_owned (status_of s)) is);
   staging = λ is. absurd (leaves.staging done is);
-  normal = λ is. subst (λ (s : VrStatus). (follower_after did.Done s v.follower).staged ≡ None) (sym is) refl;
+  normal = λ is. subst (λ (s : VrStatus). (follower_after did.Done s v.follower).behind ≡ None) (sym is) refl;
   leads = λ lead.
       let both : (is_own_view (vr_of (after v core change did.Done)) ≡ true) × (is_normal (status_of core.status) ≡ true) = and_true (is_own_view (vr_of (after v core change did.Done))) (is_normal (status_of core.status)) lead in
       let now : core.status ≡ status.Normal = normal_from core.status both.1 in
@@ -156,12 +164,12 @@ pub told : (v : Inside) (core : VrCore) (change : Changing) (acted : Acted) (sen
     → sender ≡ sender_after acted.did core.status core.view core.start v.sender → follower ≡ follower_after acted.did core.status v.follower
     → Told v core change acted sender follower (rule r)
 told v core change acted sender follower r rule kept view step leaves ends anew unstaged =
-    let gave : step_of (seen v core change acted.did) acted ≡ rule r = step v.sender.acked v.follower.staged ∙ ap rule view in
+    let gave : step_of (seen v core change acted.did) acted ≡ rule r = step v.sender.acked (staged_on v.core.shim v.follower.behind) ∙ ap rule view in
     let ended : Ends (step_of (seen v core change acted.did) acted) = subst Ends (sym gave) ends in
     let whole : Told v core change acted (sender_after acted.did core.status core.view core.start v.sender) (follower_after acted.did core.status v.follower) (rule r) = record {
       kept = kept_after v core change acted kept leaves ended;
       begins = begins_after v core change acted leaves ended;
-      step = ap (λ (q : Replica). step_of q acted) (seen_is v core change acted.did) ∙ gave;
+      step = ap (λ (q : Replica). step_of q acted) (seen_is v core change acted leaves ended) ∙ gave;
     } in
     subst (λ (f : Following). Told v core change acted sender f (rule r)) (sym unstaged)
     (subst (λ (s : Sending). Told v core change acted s (follower_after acted.did core.status v.follower) (rule r)) (sym anew) whole)

@@ -55,5 +55,5 @@ sender_after other now view start before = before
 
 -- and nothing is staged
 abbrev pub follower_after : Did → VrStatus → Following → Following
-follower_after did.Done status.Normal before = record before { staged = None }
+follower_after did.Done status.Normal before = record before { behind = None }
 follower_after other now before = before

@@ -1,4 +1,4 @@
-ghost use Rattle.std.specs.Prelude.{◌≡◌, ◌<◌, ◌≤◌, ◌+◌, ◌++◌, ◌∷◌, ◌==◌, ◌%◌, [], true, false, None, length, map, slice_get, IfOk};
+ghost use Rattle.std.specs.Prelude.{◌≡◌, ◌<◌, ◌≤◌, ◌+◌, ◌++◌, ◌∷◌, ◌==◌, ◌%◌, [], true, false, None, length, map, slice_get, IfOk, IfSome};
 ghost use Rattle.hm_rules.specs.Replica.{Status, opened, others, held_len};
 ghost use Rattle.hm_rules.specs.ReplicaSteps as steps;
 ghost use Rattle.hm_rules.specs.Service.{replicas_below};
@@ -8,6 +8,7 @@ ghost use Rattle.hm_rules.specs.Votes.{size, faults, primary_of, is_own_view, is
 ghost use Rattle.hm_replica.specs.Given.{Gives};
 ghost use Rattle.hm_replica.specs.Steps.{step_of};
 ghost use Rattle.hm_feed.specs.Answers.{answer};
+ghost use Rattle.hm_feed.specs.Sending.{above};
 ghost use Rattle.hm_store.specs.Log.{max_log_len};
 ghost use Rattle.hm_vr.specs.Parts as parts;
 
@@ -310,7 +311,8 @@ impl Vr {
         if end > u64::from(self.core.shim.log().cap()) {
             return log_full(acted);
         }
-        self.follower.begin(self.core.shim.log(), known);
+        let _len = self.core.shim.log().len();
+        self.follower.begin();
         self.core.view = feed.view;
         self.core.status = VrStatus::Staging;
         self.take_in(from, feed, acted);
@@ -517,24 +519,30 @@ impl Vr {
     {
         acted.did = Did::Done;
         acted.declared = Declared { from: 0, to: 0 };
-        let to = self.held_by_quorum();
         let known = self.core.shim.log().applied_len();
-        if self.sender.start() <= to && known < to {
-            declare(acted, self.core.me, &mut self.core.shim, known, to);
+        match self.to_commit(known) {
+            Some(to) if self.sender.start() <= to => {
+                declare(acted, self.core.me, &mut self.core.shim, known, to);
+            }
+            _ => {}
         }
     }
 
-    /// How much of the log as many others hold as a quorum wants beside this replica, all of it where it wants none.
-    fn held_by_quorum(&self) -> u32
+    /// How much of the log as many others hold as a quorum wants beside this replica, all of it where it wants none, where that
+    /// is more than is known.
+    fn to_commit(&self, known: u32) -> Option<u32>
         requires { rules.leads self.now ≡ true }
-        ensures value { result ≡ steps.quorum_len self.now (faults self.now) }
-        ensures within { result ≤ length self.now.log }
+        ensures value { result ≡ above known (steps.quorum_len self.now (faults self.now)) }
+        ensures within { IfSome result (λ len. len ≤ length self.now.log) }
     {
         let faults = self.faults();
-        if faults == 0 {
-            return self.core.shim.log().len();
+        if faults > 0 {
+            return self
+                .sender
+                .held_above(&self.members, self.core.me, faults, known);
         }
-        self.sender.held_by(&self.members, self.core.me, faults)
+        let len = self.core.shim.log().len();
+        if known < len { Some(len) } else { None }
     }
 
     /// Puts the page to each other replica behind the packets.

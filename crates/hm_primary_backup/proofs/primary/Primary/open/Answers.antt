@@ -11,9 +11,9 @@ invariant_of-result c =
     record {
       me = c.requires.me;
       caps = search rules;
-      begins = search rules;
+      room = search rules;
       leads = λ first. record {
-        staged = ap (λ (f : Following). f.staged) c.in_ok-open-2.ensures;
+        staged = ap (λ (f : Following). f.behind) c.in_ok-open-2.ensures;
         within = subst (λ (s : Sending). All (λ n. n ≤ length shim.entries) s.acked) (sym c.open-2.ensures) (All-replicate (λ n. n ≤ length shim.entries) 7 0 (omega arith));
       };
     }

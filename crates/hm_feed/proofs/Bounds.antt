@@ -1,4 +1,4 @@
--- What a quorum holds is within the log.
+-- What so many others hold is within what each of them acknowledged at most.
 use Rattle.std.proofs.Common.{ℕ, zero, suc, ◌≤◌, max, List, [], ◌∷◌, map, arith}
 use Rattle.std.specs.Prelude.{All, filter, fold, count_by, nat_le, slice_index}
 use Rattle.std.proofs.lemmas.List.Elements.{All-head, All-tail, All-filter, All-map}
