@@ -38,7 +38,7 @@ fn a_staged_list_becomes_the_log(rt: HostRuntime) -> Result<(), Fail> {
     let log = [write(value)];
     let mut shim = Shim::open(alloc, 16)?;
     let mut follower = Follower::open(alloc, 16)?;
-    follower.begin(shim.log(), 0);
+    follower.begin();
     assert!(rt; follower.staging());
     assert_eq!(rt; follower.take(&mut shim, &page(0, &log)), Took::Staged(1));
     assert_eq!(rt; shim.log().len(), 0);
@@ -56,6 +56,7 @@ fn notes_what_is_acknowledged(rt: HostRuntime) -> Result<(), Fail> {
     assert_eq!(rt; sender.acked(1), 3);
     let mut members = Members::first(0).ok_or("a member")?;
     members.try_push(1)?;
-    assert_eq!(rt; sender.held_by(&members, 0, 1), 3);
+    assert_eq!(rt; sender.held_above(&members, 0, 1, 2), Some(3));
+    assert_eq!(rt; sender.held_above(&members, 0, 1, 3), None);
     Ok(())
 }

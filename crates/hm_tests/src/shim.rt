@@ -8,6 +8,7 @@ use hm_base::why::Why;
 use hm_packet::body::{FastRead, Put};
 use hm_shim::shim::{Local, Shim, reply_to};
 use hm_store::ledger::Ledger;
+use hm_store::staged::Staged;
 use std::alloc::Global;
 use std::test::Fail;
 
@@ -69,6 +70,7 @@ fn holding(alloc: Global, entry: Entry) -> Result<Shim, Fail>
 /// Two writes of object 5, by clients 7 and 8, of which the first is applied.
 fn lagging(alloc: Global, first: Value, second: Value) -> Result<Shim, Fail>
     ensures cap { IfOk result (λ s. s.cap ≡ 2) }
+    ensures applied { IfOk result (λ s. s.applied ≡ 1) }
     ensures two { IfOk result (λ s. length s.entries ≡ 2) }
 {
     let mut shim = Shim::open(alloc, 2)?;
@@ -76,17 +78,6 @@ fn lagging(alloc: Global, first: Value, second: Value) -> Result<Shim, Fail>
     append(&mut shim, write(2, 8, 1, second))?;
     shim.apply_to(1);
     Ok(shim)
-}
-
-/// A list of one entry that was staged, for a log of two entries at most.
-fn staged(alloc: Global, entry: Entry) -> Result<Ledger, Fail>
-    ensures { IfOk result (λ l. l.cap ≡ 2) }
-{
-    let mut list = Ledger::open(alloc, 2)?;
-    match list.push(entry) {
-        Ok(()) => Ok(list),
-        Err(_) => Err(Fail::from("room")),
-    }
 }
 
 #[test]
@@ -125,29 +116,41 @@ fn admits_writes_in_order(rt: HostRuntime) -> Result<(), Fail> {
 fn adopted_log_brings_its_clients(rt: HostRuntime) -> Result<(), Fail> {
     let value = Value::from_slice(b"a").ok_or("a value")?;
     let mut shim = holding(rt.alloc(), write(1, 7, 3, value))?;
-    let mut list = staged(rt.alloc(), write(2, 8, 1, value))?;
-    shim.adopt(&mut list);
+    shim.adopt(&[write(2, 8, 1, value)]);
     assert_eq!(rt; shim.judge(7, 3), Verdict::New);
     assert_eq!(rt; shim.judge(8, 1), Verdict::Again { index: 0 });
     assert_eq!(rt; shim.log().last(), stamp(2));
-    assert!(rt; list.is_empty());
     Ok(())
 }
 
 #[test]
-fn copies_the_front_of_a_log(rt: HostRuntime) -> Result<(), Fail> {
+fn keeps_the_front_of_a_log(rt: HostRuntime) -> Result<(), Fail> {
     let first = Value::from_slice(b"a").ok_or("a value")?;
     let second = Value::from_slice(b"b").ok_or("a value")?;
-    let shim = lagging(rt.alloc(), first, second)?;
-    let mut front = Ledger::open(rt.alloc(), 2)?;
-    front.copy_front(shim.log(), 1);
-    assert_eq!(rt; front.len(), 1);
-    assert_eq!(rt; front.applied_len(), 0);
-    assert_eq!(rt; front.latest(5), Some((stamp(1), first)));
-    assert_eq!(rt; front.applied(5), None);
-    assert_eq!(rt; shim.log().page(1).get(0), Some(write(2, 8, 1, second)));
-    assert_eq!(rt; shim.log().entry(2), None);
-    assert_eq!(rt; shim.log().applied(5), Some((stamp(1), first)));
-    assert_eq!(rt; shim.log().last_applied(), Some(stamp(1)));
+    let mut log = Ledger::open(rt.alloc(), 2)?;
+    assert!(rt; log.push(write(1, 7, 3, first)).is_ok());
+    assert!(rt; log.push(write(2, 8, 1, second)).is_ok());
+    assert_eq!(rt; log.page(1).get(0), Some(write(2, 8, 1, second)));
+    assert_eq!(rt; log.latest(5), Some((stamp(2), second)));
+    log.truncate(1);
+    assert_eq!(rt; log.len(), 1);
+    assert_eq!(rt; log.latest(5), Some((stamp(1), first)));
+    assert_eq!(rt; log.applied(5), None);
+    assert_eq!(rt; log.entry(1), None);
+    assert_eq!(rt; log.last_applied(), None);
+    Ok(())
+}
+
+#[test]
+fn stages_behind_what_is_applied(rt: HostRuntime) -> Result<(), Fail> {
+    let value = Value::from_slice(b"a").ok_or("a value")?;
+    let shim = lagging(rt.alloc(), value, value)?;
+    let mut staged = Staged::open(rt.alloc(), 2)?;
+    staged.extend(&[write(3, 9, 1, value)]);
+    assert_eq!(rt; staged.len(), 1);
+    assert_eq!(rt; staged.as_slice().len(), 1);
+    assert_eq!(rt; shim.staged_len(&staged), 2);
+    staged.clear();
+    assert_eq!(rt; staged.len(), 0);
     Ok(())
 }
