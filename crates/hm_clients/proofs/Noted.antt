@@ -1,5 +1,5 @@
 -- What is noted of a log, of one more entry, and of a log's front.
-use Rattle.std.proofs.Common.{◌≡◌, ℕ, ◌+◌, ◌<◌, ◌≤◌, Bool, true, false, cond, Some, List, refl, subst, eq-eqb, inl, inr, [], ◌∷◌, ◌++◌, length, Option, None, sym, ap, ◌∙◌, arith, length-append, take, drop}
+use Rattle.std.proofs.Common.{◌≡◌, ℕ, ◌+◌, ◌<◌, ◌≤◌, Bool, true, false, cond, Some, List, refl, subst, eq-eqb, inl, inr, [], ◌∷◌, ◌++◌, length, Option, sym, ap, ◌∙◌, arith, length-append, take, drop}
 use Rattle.std.specs.Prelude.{nat_eq, nat_lt, ◌&&◌, if◌then◌else◌}
 use Rattle.std.specs.Map.{lookup}
 use Rattle.std.proofs.lemmas.Bool.{cases_eq, ne_eqb, cond_both}

@@ -1,6 +1,6 @@
 -- Where fewer than so many reach a length, what so many reach is below it.
-use Rattle.std.proofs.Common.{◌≡◌, ◌⊎◌, ℕ, ◌+◌, ◌<◌, ◌≤◌, Bool, true, false, if◌then◌else◌, List, [], ◌∷◌, refl, ap, ◌∙◌, arith, inl, inr}
-use Rattle.std.specs.Prelude.{max, filter, fold, nat_le, count_by}
+use Rattle.std.proofs.Common.{◌≡◌, ℕ, ◌+◌, ◌<◌, ◌≤◌, Bool, true, if◌then◌else◌, List, [], ◌∷◌, ap, arith, inl, inr}
+use Rattle.std.specs.Prelude.{max, filter, fold, nat_le}
 use Rattle.std.proofs.lemmas.Bool.{leb-true, le-leb, cases_lt, cond_both, cases_Bool}
 use Rattle.std.proofs.lemmas.List.Sums.{sum_by-cons}
 use Rattle.hm_base.specs.Taking.{held_by}
@@ -38,6 +38,6 @@ pub held_below : (k floor next : ℕ) (lengths : List ℕ) → next ≤ floor + 
 held_below k floor next lengths above few =
     most_below (λ m. nat_le k (count_reaching m lengths)) floor
     (λ m t. elim (cases_lt floor m) [
-        | inl more ↦ absurd (omega (arith, leb-true k (count_reaching m lengths) t, fewer_reach next m (omega arith) lengths, few))
-        | inr less ↦ less
-      ]) lengths 0 (omega arith)
+      | inl more ↦ absurd (omega (arith, leb-true k (count_reaching m lengths) t, fewer_reach next m (omega arith) lengths, few))
+      | inr less ↦ less
+    ]) lengths 0 (omega arith)

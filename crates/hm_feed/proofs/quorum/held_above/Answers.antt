@@ -1,4 +1,4 @@
-use Rattle.std.proofs.Common.{◌≡◌, ℕ, ◌+◌, ◌<◌, ◌≤◌, if◌then◌else◌, List, Bool, Option, Some, None, sym, ap, arith}
+use Rattle.std.proofs.Common.{ℕ, ◌≤◌, if◌then◌else◌, List, Bool, Some, None, sym, ap, arith}
 use Rattle.std.specs.Prelude.{filter, not, ◌==◌}
 use Rattle.std.proofs.lemmas.Bool.{le-ltb}
 use Rattle.hm_base.specs.Taking.{held_by}

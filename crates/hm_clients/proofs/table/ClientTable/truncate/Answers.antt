@@ -1,4 +1,4 @@
-use Rattle.std.proofs.Common.{◌≡◌, ℕ, ◌-◌, ◌<◌, ◌≤◌, List, length, map, reverse, take, get_or, Option, Some, sym, ap, subst, ◌∙◌, arith, zero, suc, inl, inr}
+use Rattle.std.proofs.Common.{◌≡◌, ℕ, ◌-◌, ◌<◌, ◌≤◌, List, length, map, reverse, take, Option, Some, sym, ap, subst, ◌∙◌, arith, zero, suc, inl, inr}
 use Rattle.std.specs.Prelude.{slice_get}
 use Rattle.std.proofs.lemmas.List.{take-map, length-take-le}
 use Rattle.std.proofs.lemmas.Option.{slice_get_cases}

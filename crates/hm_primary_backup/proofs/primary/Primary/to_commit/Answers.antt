@@ -1,4 +1,4 @@
-use Rattle.std.proofs.Common.{length, ap, subst, sym, ◌≤◌, ◌∙◌}
+use Rattle.std.proofs.Common.{length, ap, subst, ◌≤◌, ◌∙◌}
 use Rattle.std.specs.Prelude.{IfSome}
 use Rattle.hm_rules.specs.Replica.{Replica}
 use Rattle.hm_rules.specs.PrimaryBackup.{is_primary}

@@ -1,7 +1,5 @@
-use Rattle.std.proofs.Common.{◌≡◌, ℕ, ◌+◌, ◌%◌, ◌≤◌, ◌<◌, List, [], ◌∷◌, ◌++◌, length, set, get_or, Option, Some, None, ap, sym, subst, ◌∙◌, arith, length-append}
-use Rattle.std.proofs.Math.Nat.{mod-lt}
+use Rattle.std.proofs.Common.{◌≡◌, ℕ, List, [], ◌∷◌, ◌++◌, length, set, ap, sym, subst, arith, length-append}
 use Rattle.hm_store.specs.declared.last_places.Link.{Link}
-use Rattle.hm_store.specs.declared.last_places.TheConstants.{BUCKETS}
 use Rattle.hm_store.specs.Chained.{AreChained}
 use Rattle.hm_store.proofs.Popped.{none_popped, key_popped}
 use Rattle.hm_store.proofs.last_places.LastPlaces.pop.Goals as goal
