@@ -13,7 +13,7 @@ use Rattle.hm_refusal_laws.specs.Slotting.{slot_happens, slot_step, slot_run, sl
 use Rattle.hm_refusal_laws.proofs.Settled.{settled}
 
 -- two tests of numbers agree from k on
-abbrev AgreeFrom : ℕ → List ℕ → List ℕ → Type 0
+abbrev pub AgreeFrom : ℕ → List ℕ → List ℕ → Type 0
 AgreeFrom k xs ys = (n : ℕ) → k ≤ n → stands_in n xs ≡ stands_in n ys
 
 not_below : (c : Bool) (k n : ℕ) (later : List ℕ) → n < k → stands_in n later ≡ false → stands_in n (if c then k ∷ later else later) ≡ false

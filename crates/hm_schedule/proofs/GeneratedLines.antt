@@ -1,21 +1,23 @@
 -- What is made of a number is a schedule.
-use Rattle.std.proofs.Common.{◌≡◌, ℕ, zero, suc, ◌+◌, ◌-◌, ◌/◌, ◌%◌, ◌<◌, ◌≤◌, [], length, drop, refl, ap, arith, lit≤, add-one}
-use Rattle.std.specs.Prelude.{◌==◌, slice_get, Some}
+use Rattle.std.proofs.Common.{◌≡◌, ℕ, zero, suc, ◌+◌, ◌-◌, ◌/◌, ◌%◌, ◌<◌, ◌≤◌, List, [], ◌∷◌, length, drop, refl, ap, arith, lit≤, add-one}
+use Rattle.std.specs.Prelude.{◌==◌, slice_get, Some, map}
 use Rattle.std.specs.Int.{w16, to_be_bytes}
 use Rattle.std.proofs.lemmas.Bool.{cond_both, cond-true, cond-false, eq-eqb, ne_eqb}
 use Rattle.hex.specs.Hex.{IsBytes}
 use Rattle.hm_base.specs.declared.node.GroupKind.{GroupKind}
 use Rattle.hm_base.specs.declared.node.GroupKind.TheVariants as kind
 use Rattle.hm_schedule.specs.Generated.{next_state, timeout_odds, event_made, event_from, timeout_made, events_from, generated}
-use Rattle.hm_schedule.specs.Generators.{lines_left}
+use Rattle.hm_schedule.specs.Generators.{lines_left, IsGroupThenEvents}
 use Rattle.hm_schedule.specs.Limits.{max_events}
 use Rattle.hm_schedule.specs.Orders.{Stage, ComeFrom, IsSchedule}
 use Rattle.hm_schedule.specs.Ranges.{IsValue}
 use Rattle.hm_schedule.specs.Schedules.{IsLawfulGroup, IsLawfulEvent}
+use Rattle.hm_schedule.specs.declared.event.Event.{Event}
 use Rattle.hm_schedule.specs.declared.event.Event.TheVariants as event
 use Rattle.hm_schedule.specs.declared.generator.Choice.{Choice}
 use Rattle.hm_schedule.specs.declared.generator.Choice.TheVariants as choice
 use Rattle.hm_schedule.specs.declared.generator.Generator.TheInside.{Inside}
+use Rattle.hm_schedule.specs.declared.line.Line.{Line}
 use Rattle.hm_schedule.specs.declared.line.Line.TheVariants as line
 
 -- a lawful group has a member, and few of them
@@ -89,6 +91,20 @@ length-events_from k size number state (suc n) = omega (arith, length-events_fro
 pub length-generated : (number : ℕ) (k : GroupKind) (size : ℕ) → length (generated number k size) ≡ max_events + 1
 unfolding generated
 length-generated number k size = omega (arith, length-events_from k size 1 number max_events)
+
+only_events : (k : GroupKind) (size number state n : ℕ) → (events : List Event) × (events_from k size number state n ≡ map line.Event events)
+unfolding events_from
+only_events k size number state zero = ([], refl)
+only_events k size number state (suc n) =
+    let later = only_events k size (number + 1) (next_state (next_state state)) n in
+    let first : Event = event_from k size number state in
+    (first ∷ later.0, ap (λ (l : List Line). line.Event first ∷ l) later.1)
+
+pub group_then_events : (number : ℕ) (k : GroupKind) (size : ℕ) → IsGroupThenEvents k size (generated number k size)
+unfolding generated
+group_then_events number k size =
+    let made = only_events k size 1 number max_events in
+    record { events = made.0; parts = ap (λ (l : List Line). line.Group k size ∷ l) made.1 }
 
 -- ---- the lines that are left
 

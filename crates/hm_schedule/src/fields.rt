@@ -111,7 +111,7 @@ pub(crate) fn next_small(text: &[u8], most: u8) -> Option<(u8, &[u8])>
 }
 
 /// The protocol that a word names. None exactly for any other word.
-fn kind_of(word: &[u8]) -> Option<GroupKind>
+pub(crate) fn kind_of(word: &[u8]) -> Option<GroupKind>
     ensures { result ≡ kind_named word.now }
 {
     if word == b"chain".as_slice() {

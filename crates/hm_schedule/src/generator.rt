@@ -1,6 +1,7 @@
 ghost use Rattle.std.specs.Prelude.{◌≡◌, ◌+◌, ◌^◌, ◌<◌, ℕ, List, length, drop, slice_get, IfSome};
 ghost use Rattle.std.specs.Int.{w16, to_be_bytes};
 ghost use Rattle.hm_base.specs.declared.node.GroupKind.{GroupKind};
+ghost use Rattle.hm_schedule.specs.Generators.{IsGroupThenEvents};
 ghost use Rattle.hm_schedule.specs.Generated.{next_state, draw_of, choice_at, timeout_made, event_made, event_from, generated};
 ghost use Rattle.hm_schedule.specs.Limits.{max_events};
 ghost use Rattle.hm_schedule.specs.Orders.{IsSchedule};
@@ -108,6 +109,7 @@ impl Generator {
 
 /// What is made of a number is a schedule, of a group's line and [`MAX_EVENTS`] events.
 pub fn generated_is_a_schedule()
+    ensures events { (number : ℕ) → (kind : GroupKind) → (size : ℕ) → IsGroupThenEvents kind size (generated number kind size) }
     ensures schedule { (number : ℕ) → (kind : GroupKind) → (size : ℕ) → IsLawfulGroup kind size → IsSchedule (generated number kind size) }
     ensures count { (number : ℕ) → (kind : GroupKind) → (size : ℕ) → length (generated number kind size) ≡ max_events + 1 }
 {}

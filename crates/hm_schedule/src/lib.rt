@@ -4,6 +4,7 @@
 pub mod event;
 mod fields;
 pub mod generator;
+pub mod group_words;
 pub mod keyword;
 pub mod law;
 pub mod limits;
@@ -12,4 +13,6 @@ pub mod lines;
 pub mod opening;
 pub mod reading;
 mod reads;
+pub mod round_trip;
 pub mod stage;
+pub mod write_line;

@@ -57,7 +57,7 @@ fn read_group(fields: &[u8]) -> Option<Line>
 }
 
 /// Whether groups of this protocol may have this size.
-fn has_size(kind: GroupKind, size: u8) -> bool
+pub(crate) fn has_size(kind: GroupKind, size: u8) -> bool
     ensures { IsTrue result ↔ IsLawfulGroup kind size }
 {
     match kind {
