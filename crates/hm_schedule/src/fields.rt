@@ -21,7 +21,7 @@ pub(crate) fn split_word(text: &[u8]) -> (&[u8], &[u8])
 }
 
 /// The word behind a space, and the rest. None exactly where the text doesn't begin with a space.
-fn next_word(text: &[u8]) -> Option<(&[u8], &[u8])>
+pub(crate) fn next_word(text: &[u8]) -> Option<(&[u8], &[u8])>
     ensures some { IfSome result (λ found. (text.now ≡ 32 ∷ (found.0.now ++ found.1.now)) × IsWord found.0.now × IsWordEnd found.1.now) }
     ensures none { IfNone result ((rest : List ℕ) → text.now ≢ 32 ∷ rest) }
 {
@@ -111,7 +111,7 @@ pub(crate) fn next_small(text: &[u8], most: u8) -> Option<(u8, &[u8])>
 }
 
 /// The protocol that a word names. None exactly for any other word.
-fn kind_of(word: &[u8]) -> Option<GroupKind>
+pub(crate) fn kind_of(word: &[u8]) -> Option<GroupKind>
     ensures { result ≡ kind_named word.now }
 {
     if word == b"chain".as_slice() {

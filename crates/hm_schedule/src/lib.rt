@@ -12,4 +12,6 @@ pub mod lines;
 pub mod opening;
 pub mod reading;
 mod reads;
+mod reason;
+pub mod refusal;
 pub mod stage;
