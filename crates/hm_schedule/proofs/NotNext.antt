@@ -142,7 +142,6 @@ breaks_there begun others why rest lawful also breaks outside =
     let apart = behind_one Stage.Fresh begun others breaks.rest rest lawful also (sym breaks.parts) (refused_outside (stage_of begun) breaks.rest why breaks.refused) outside in
     (apart.count, subst (λ (t : Stage). IsRefused t rest why) apart.stage_is (subst (λ (l : List ℕ). IsRefused (stage_of begun) l why) apart.rest_is breaks.refused))
 
--- a schedule's bytes break off nowhere
-pub breaks_nowhere : (begun lines : List Line) (why : Refusal) → IsBegun begun → IsSchedule lines → BreaksOff begun why (lines_text lines) → ⊥
-breaks_nowhere begun lines why lawful schedule breaks =
-    nowhere Stage.Fresh begun lines breaks.rest lawful schedule.begun (λ fresh. schedule.group) breaks.parts (refused_outside (stage_of begun) breaks.rest why breaks.refused)
+-- a schedule's bytes are nowhere outside the grammar
+pub never_outside : (begun lines : List Line) (rest : List ℕ) → IsBegun begun → IsSchedule lines → lines_text lines ≡ lines_text begun ++ rest → IsOutside (stage_of begun) rest → ⊥
+never_outside begun lines rest lawful schedule same outside = nowhere Stage.Fresh begun lines rest lawful schedule.begun (λ fresh. schedule.group) same outside

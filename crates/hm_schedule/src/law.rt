@@ -13,7 +13,7 @@ pub fn schedules_grow_by_lines()
 {}
 
 /// Bytes that are refused are outside the grammar. Bytes break off behind one number of lines and for one reason, and a schedule's
-/// bytes nowhere.
+/// bytes are nowhere outside the grammar.
 pub fn bytes_break_off_once()
     ensures outside { (stage : Stage) → (bytes : List ℕ) → (why : Refusal) → IsRefused stage bytes why → IsOutside stage bytes }
     ensures once { (begun others : List Line) → (why other : Refusal) → (bytes : List ℕ)
@@ -29,5 +29,5 @@ pub fn bytes_break_off_once()
         → BreaksOff begun why (lines_text others ++ rest)
         → IsOutside (stage_of others) rest
         → (length begun ≡ length others) × IsRefused (stage_of others) rest why }
-    ensures nowhere { (begun lines : List Line) → (why : Refusal) → IsBegun begun → IsSchedule lines → BreaksOff begun why (lines_text lines) → ⊥ }
+    ensures nowhere { (begun lines : List Line) → (rest : List ℕ) → IsBegun begun → IsSchedule lines → lines_text lines ≡ lines_text begun ++ rest → IsOutside (stage_of begun) rest → ⊥ }
 {}

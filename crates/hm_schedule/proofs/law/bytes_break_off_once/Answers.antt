@@ -1,4 +1,4 @@
-use Rattle.hm_schedule.proofs.NotNext.{breaks_once, breaks_there, breaks_nowhere}
+use Rattle.hm_schedule.proofs.NotNext.{breaks_once, breaks_there, never_outside}
 use Rattle.hm_schedule.proofs.Refused.{refused_outside}
 use Rattle.hm_schedule.proofs.law.bytes_break_off_once.Goals as goal
 
@@ -12,4 +12,4 @@ pub returns-clause-there : goal.returns-clause-there
 returns-clause-there c = breaks_there
 
 pub returns-clause-nowhere : goal.returns-clause-nowhere
-returns-clause-nowhere c = breaks_nowhere
+returns-clause-nowhere c = never_outside
