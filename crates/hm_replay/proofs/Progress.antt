@@ -15,22 +15,23 @@ use Rattle.hm_schedule.specs.Setups.{setup_of, event_of}
 use Rattle.hm_world.specs.WorldFields.{Held, with_slots}
 use Rattle.hm_schedule.specs.declared.event.Event.{Event}
 use Rattle.hm_schedule.specs.LineTexts.{IsLine}
-use Rattle.hm_schedule.specs.Orders.{Stage, IsBegun, IsSchedule, IsOutside, BreaksOff, after, stage_of, events_at, line_bytes, lines_text, setup_in, events_in}
-use Rattle.hm_schedule.specs.Reasons.{reason_text}
+use Rattle.hm_schedule.specs.Orders.{Stage, IsBegun, IsSchedule, after, stage_of, events_at, line_bytes, lines_text, setup_in, events_in}
+use Rattle.hm_schedule.specs.Refusals.{BreaksOff, IsRefused}
 use Rattle.hm_schedule.specs.declared.line.Line.{Line}
 use Rattle.hm_schedule.specs.declared.line.Line.TheVariants as line
-use Rattle.hm_schedule.specs.declared.line.LineReason.{LineReason}
+use Rattle.hm_schedule.specs.declared.refusal.Refusal.{Refusal}
+use Rattle.hm_schedule.specs.declared.refusal.Refusal.TheVariants as refusal
 use Rattle.hm_schedule.specs.Lines.{Moves}
 use Rattle.hm_schedule.specs.Openings.{max_opening, opening_bound}
 use Rattle.hm_schedule.specs.Nexts.{ComesBadly, EventComes, Opens, OpensCut}
-use Rattle.hm_replay.specs.Replays.{events_text_of, end_text, ShowsFull, IsCutRun, IsPartialRun, IsClosing}
+use Rattle.hm_replay.specs.Replays.{events_text_of, end_text, refusal_text, IsRefusedRun, IsCutRun, IsPartialRun, IsClosing}
 use Rattle.hm_outside.specs.Calls.{CallsAddUp}
 use Rattle.hm_outside.specs.Faults.{Faults, one_more, IsQuiet}
 use Rattle.hm_outside.specs.Puts.{Puts}
 use Rattle.hm_outside.specs.declared.device.NotPut.{NotPut}
 use Rattle.hm_outside.specs.declared.device.NotPut.TheVariants as not_put
 use Rattle.hm_replay.specs.Lawful.{RunsLawfully, slotted_in}
-use Rattle.hm_replay.specs.Statuses.{Ends, ended}
+use Rattle.hm_replay.specs.Statuses.{Ends, ended, refused}
 use Rattle.hm_schedule.specs.declared.opening.Opening.{Opening}
 use Rattle.hm_schedule.specs.declared.reading.NextEvent.{NextEvent}
 use Rattle.hm_schedule.specs.declared.reading.NextEvent.TheVariants as next_event
@@ -42,7 +43,7 @@ use Rattle.hm_schedule.specs.Fronts.{GrowsByLines}
 pub event_moves : (stage : Stage) (next : NextEvent) (old new : List ℕ) (left now : Option (List ℕ)) → EventComes stage next old new left now → (cut : List ℕ) × Moves old new left now cut
 event_moves stage (next_event.Event e) old new left now comes = (line_bytes (line.Event e), comes.1)
 event_moves stage next_event.End old new left now comes = ([], comes.moves)
-event_moves stage (next_event.Bad reason) old new left now comes = (comes.cut, comes.moves)
+event_moves stage (next_event.Refused why) old new left now comes = (comes.cut, comes.moves)
 
 -- ---- the schedule so far
 
@@ -67,14 +68,14 @@ pub record Ahead (w : Held) (opened : ℕ) (next : NextEvent) (new : List ℕ) (
 no_step : (lines : List Line) → events_in lines ≡ [] → slotted_in lines ≡ slotted (opens (setup_in lines))
 no_step lines none = ap (λ (es : List rule.Event). slot_run (slotted (opens (setup_in lines))) es) none
 
-breaks_off : (begun : List Line) (ahead : List ℕ) (left now : Option (List ℕ)) → Consumes left now (lines_text begun ++ ahead)
-    → ((bytes : List ℕ) → now ≡ Some bytes → IsOutside (stage_of begun) (ahead ++ bytes)) → IfSome left (BreaksOff begun)
-breaks_off begun ahead None now read outside = tt
-breaks_off begun ahead (Some xs) None read outside = absurd read
-breaks_off begun ahead (Some xs) (Some ys) read outside = record {
+breaks_off : (begun : List Line) (why : Refusal) (ahead : List ℕ) (left now : Option (List ℕ)) → Consumes left now (lines_text begun ++ ahead)
+    → ((bytes : List ℕ) → now ≡ Some bytes → IsRefused (stage_of begun) (ahead ++ bytes) why) → IfSome left (BreaksOff begun why)
+breaks_off begun why ahead None now read refused = tt
+breaks_off begun why ahead (Some xs) None read refused = absurd read
+breaks_off begun why ahead (Some xs) (Some ys) read refused = record {
   rest = ahead ++ ys;
   parts = read ∙ append_assoc (lines_text begun) ahead ys;
-  outside = outside ys refl;
+  refused = refused ys refl;
 }
 
 some_line : (lines : List Line) → stage_of lines ≢ Stage.Fresh → lines ≢ []
@@ -200,30 +201,33 @@ module _ (calls : CallsAddUp) (runs : RunsLawfully) (grow : GrowsByLines) where
   ends_closed (Err not_put.NoMemory) whole begun ahead closing left now held mid put f middle lawful read closes written quiet same ends none =
       (record { read = quiet; put = none.1 ∙ same }, partial begun ahead closing [] left now held mid put lawful read closes (record { rest = closing; parts = refl }) written none.0)
 
-  -- where a line outside the grammar comes
-  ends_badly : {T : Type 0} (closed : Result T NotPut) (begun : List Line) (old new : List ℕ) (left now later held mid put : Option (List ℕ)) (f : Faults) (middle number : ℕ) (reason : LineReason)
+  -- the status of a line that is refused, once its number was put
+  ends_as : (why : Refusal) (number : ℕ) (left now held put : Option (List ℕ)) (f : Faults) → IsQuiet f → IsRefusedRun left held put number why → Ends (refused number why) left now held put f
+  ends_as refusal.TooLong number left now held put f none run = (none, run)
+  ends_as (refusal.Bad reason) number left now held put f none run = (none, run)
+
+  -- where a line that is refused comes
+  ends_refused : {T : Type 0} (closed : Result T NotPut) (begun : List Line) (old new : List ℕ) (left now later held mid put : Option (List ℕ)) (f : Faults) (middle number : ℕ) (why : Refusal)
       → IsBegun begun → Consumes left now (lines_text begun ++ old) → Appends held mid (events_text_of begun) → f.read_after ≡ f.read_before → middle ≡ f.put_before
-      → ComesBadly (stage_of begun) old new now later reason → number ≡ length begun + 1
-      → Puts closed (run_texts.bad_text number (reason_text reason)) mid put middle f.put_after
-      → Ends (ended closed (status.BadLine number reason)) left later held put f
-  ends_badly closed begun old new left now later held mid put f middle number reason lawful read written quiet same came number_is puts =
-      let breaks = breaks_off begun old left now read came.outside in
-      let closing_is = ap (λ (n : ℕ). run_texts.bad_text n (reason_text reason)) number_is ∙ ap (λ (r : LineReason). run_texts.bad_text (length begun + 1) (reason_text r)) came.reason_is in
-      ends_closed closed (status.BadLine number reason) begun (came.cut ++ new) (run_texts.bad_text number (reason_text reason)) left later held mid put f middle lawful
+      → ComesBadly (stage_of begun) old new now later why → number ≡ length begun + 1
+      → Puts closed (refusal_text number why) mid put middle f.put_after
+      → Ends (ended closed (refused number why)) left later held put f
+  ends_refused closed begun old new left now later held mid put f middle number why lawful read written quiet same came number_is puts =
+      let breaks = breaks_off begun why old left now read came.refused in
+      let closing_is = ap (λ (n : ℕ). refusal_text n why) number_is in
+      ends_closed closed (refused number why) begun (came.cut ++ new) (refusal_text number why) left later held mid put f middle lawful
       (read_on left now later (lines_text begun) old new came.cut read came.moves)
-      (inr (inr (record { breaks = breaks; closing_is = closing_is }))) written quiet same
-      (λ none whole. (
-        none,
-        record {
-          begun = begun;
-          lawful = lawful;
-          number_is = number_is;
-          reason_is = came.reason_is;
-          breaks = breaks;
-          written = whole;
-          shown = subst (λ (r : LineReason). ShowsFull begun (events_text_of begun ++ run_texts.bad_text number (reason_text r))) (sym came.reason_is) (runs.shown_bad begun number lawful);
-        },
-      )) puts
+      (inr (inr (record { why = why; breaks = breaks; closing_is = closing_is }))) written quiet same
+      (λ none whole.
+      ends_as why number left later held put f none
+      (record {
+        begun = begun;
+        lawful = lawful;
+        number_is = number_is;
+        breaks = breaks;
+        written = whole;
+        shown = runs.shown_refused begun number why lawful;
+      })) puts
 
   -- where the input ends behind a line
   pub ends_whole : {T : Type 0} (closed : Result T NotPut) (w : Held) (opened : ℕ) (new : List ℕ) (left later held mid put : Option (List ℕ)) (f : Faults) (middle : ℕ)
@@ -253,15 +257,15 @@ module _ (calls : CallsAddUp) (runs : RunsLawfully) (grow : GrowsByLines) where
         },
       )) puts
 
-  -- where a line outside the grammar comes next
-  pub ends_badly_ahead : {T : Type 0} (closed : Result T NotPut) (w : Held) (opened : ℕ) (new : List ℕ) (left later held mid put : Option (List ℕ)) (f : Faults) (middle number : ℕ) (reason : LineReason)
-      → Ahead w opened (next_event.Bad reason) new left later held mid → f.read_after ≡ f.read_before → middle ≡ f.put_before → number ≡ opened + w.events + 1
-      → Puts closed (run_texts.bad_text number (reason_text reason)) mid put middle f.put_after
-      → Ends (ended closed (status.BadLine number reason)) left later held put f
-  ends_badly_ahead closed w opened new left later held mid put f middle number reason a quiet same number_is puts =
+  -- where a line that is refused comes next
+  pub ends_refused_ahead : {T : Type 0} (closed : Result T NotPut) (w : Held) (opened : ℕ) (new : List ℕ) (left later held mid put : Option (List ℕ)) (f : Faults) (middle number : ℕ) (why : Refusal)
+      → Ahead w opened (next_event.Refused why) new left later held mid → f.read_after ≡ f.read_before → middle ≡ f.put_before → number ≡ opened + w.events + 1
+      → Puts closed (refusal_text number why) mid put middle f.put_after
+      → Ends (ended closed (refused number why)) left later held put f
+  ends_refused_ahead closed w opened new left later held mid put f middle number why a quiet same number_is puts =
       let p = a.progress in
       let count : length a.lines ≡ opened + w.events = p.count in
-      ends_badly closed a.lines a.old new left a.between later held mid put f middle number reason p.begun p.read p.written quiet same a.comes (omega arith) puts
+      ends_refused closed a.lines a.old new left a.between later held mid put f middle number why p.begun p.read p.written quiet same a.comes (omega arith) puts
 
   -- where a read fails
   pub ends_cut : (begun : List Line) (old new : List ℕ) (left now later held put : Option (List ℕ)) → IsBegun begun → Consumes left now (lines_text begun ++ old) → Appends held put (events_text_of begun)

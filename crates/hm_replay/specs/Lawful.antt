@@ -5,13 +5,12 @@ use Rattle.hm_order.specs.Order.{order}
 use Rattle.hm_rules.specs.Events.{Event}
 use Rattle.hm_rules.specs.World.{opens}
 use Rattle.hm_rules.specs.Runs.{Slotted, slotted}
-use Rattle.hm_rules.specs.RunText.{event_text, bad_text, run_text}
+use Rattle.hm_rules.specs.RunText.{event_text, run_text}
 use Rattle.hm_refusal_laws.specs.Slotting.{slot_happens, slot_step, slot_run, slot_text}
 use Rattle.hm_schedule.specs.Orders.{IsBegun, setup_in, events_in}
-use Rattle.hm_schedule.specs.Reasons.{reason_text}
 use Rattle.hm_schedule.specs.declared.line.Line.{Line}
-use Rattle.hm_schedule.specs.declared.line.LineReason.TheVariants.{Word}
-use Rattle.hm_replay.specs.Replays.{full_in, world_in, events_text_of, history_in, ShowsFull}
+use Rattle.hm_schedule.specs.declared.refusal.Refusal.{Refusal}
+use Rattle.hm_replay.specs.Replays.{full_in, world_in, events_text_of, history_in, refusal_text, ShowsFull}
 
 -- the world behind the events of these lines, with its slots
 abbrev pub slotted_in : List Line → Slotted
@@ -26,6 +25,6 @@ pub record RunsLawfully : Type 0 where
   -- the text shows that, whatever ends it
   pub shown_whole : (lines : List Line) → IsBegun lines → ShowsFull lines (run_text (setup_in lines) (events_in lines) (full_in lines))
   pub shown_cut : (lines : List Line) → IsBegun lines → ShowsFull lines (events_text_of lines)
-  pub shown_bad : (lines : List Line) (number : ℕ) → IsBegun lines → ShowsFull lines (events_text_of lines ++ bad_text number (reason_text Word))
+  pub shown_refused : (lines : List Line) (number : ℕ) (why : Refusal) → IsBegun lines → ShowsFull lines (events_text_of lines ++ refusal_text number why)
   -- the order at its end is one that a single object store could have given
   pub legal : (lines : List Line) → IsBegun lines → IsLegal (history_in lines) (order (history_in lines))

@@ -4,16 +4,17 @@ use Rattle.std.specs.Io.KnownBytes.{Consumes, Appends, IsAtEnd}
 use Rattle.hm_base.specs.Lists.{IsPrefix}
 use Rattle.hm_rules.specs.World.{World, opens}
 use Rattle.hm_rules.specs.Runs.{run, full_events}
-use Rattle.hm_rules.specs.RunText.{events_text, order_text, bad_text, run_text, refused_events}
+use Rattle.hm_rules.specs.RunText.{events_text, order_text, bad_text, too_long_text, run_text, refused_events}
 use Rattle.hm_order.specs.declared.mark.Mark.{Mark}
 use Rattle.hm_order.specs.Legal.{IsLegal}
 use Rattle.hm_order.specs.Order.{order}
 use Rattle.hm_schedule.specs.LineTexts.{IsLine}
-use Rattle.hm_schedule.specs.Orders.{IsBegun, IsSchedule, BreaksOff, lines_text, setup_in, events_in}
+use Rattle.hm_schedule.specs.Orders.{IsBegun, IsSchedule, lines_text, setup_in, events_in}
 use Rattle.hm_schedule.specs.Reasons.{reason_text}
+use Rattle.hm_schedule.specs.Refusals.{BreaksOff}
 use Rattle.hm_schedule.specs.declared.line.Line.{Line}
-use Rattle.hm_schedule.specs.declared.line.LineReason.{LineReason}
-use Rattle.hm_schedule.specs.declared.line.LineReason.TheVariants.{Word}
+use Rattle.hm_schedule.specs.declared.refusal.Refusal.{Refusal}
+use Rattle.hm_schedule.specs.declared.refusal.Refusal.TheVariants as refusal
 
 -- ---- what the lines of a schedule, or of its front, lead to
 
@@ -41,6 +42,11 @@ end_text lines = order_text (order (history_in lines))
 abbrev pub ShowsFull : List Line → List ℕ → Type 0
 ShowsFull lines text = refused_events text ≡ full_in lines
 
+-- the end of the text, where the line of this number is refused
+abbrev pub refusal_text : ℕ → Refusal → List ℕ
+refusal_text number refusal.TooLong = too_long_text number
+refusal_text number (refusal.Bad reason) = bad_text number (reason_text reason)
+
 -- ---- how a replay ends
 
 -- the source's bytes to its end were a schedule, the text of its run was put, which shows a refused write just where the slots
@@ -54,15 +60,14 @@ pub record IsWholeRun (left now held put : Option (List ℕ)) : Type 0 where
   pub shown : ShowsFull schedule (run_text (setup_in schedule) (events_in schedule) (full_in schedule))
   pub legal : IsLegal (history_in schedule) (order (history_in schedule))
 
--- the line of this number is the first outside the grammar; the text of the events before it was put, and then its number
-pub record IsBadRun (left held put : Option (List ℕ)) (number : ℕ) (reason : LineReason) : Type 0 where
+-- the line of this number is the first that is refused; the text of the events before it was put, and then its number and why
+pub record IsRefusedRun (left held put : Option (List ℕ)) (number : ℕ) (why : Refusal) : Type 0 where
   pub begun : List Line
   pub lawful : IsBegun begun
   pub number_is : number ≡ length begun + 1
-  pub reason_is : reason ≡ Word
-  pub breaks : IfSome left (BreaksOff begun)
-  pub written : Appends held put (events_text_of begun ++ bad_text number (reason_text reason))
-  pub shown : ShowsFull begun (events_text_of begun ++ bad_text number (reason_text reason))
+  pub breaks : IfSome left (BreaksOff begun why)
+  pub written : Appends held put (events_text_of begun ++ refusal_text number why)
+  pub shown : ShowsFull begun (events_text_of begun ++ refusal_text number why)
 
 -- the text of the events whose lines were read whole was put
 pub record IsCutRun (left now held put : Option (List ℕ)) : Type 0 where
@@ -81,14 +86,15 @@ pub record ClosesWhole (begun : List Line) (ahead : List ℕ) (now : Option (Lis
   pub end : IsAtEnd now
   pub closing_is : closing ≡ end_text begun
 
--- the next line is outside the grammar, and the closing text names it
-pub record ClosesBadly (begun : List Line) (left : Option (List ℕ)) (closing : List ℕ) : Type 0 where
-  pub breaks : IfSome left (BreaksOff begun)
-  pub closing_is : closing ≡ bad_text (length begun + 1) (reason_text Word)
+-- the next line is refused, and the closing text names it
+pub record ClosesRefused (begun : List Line) (left : Option (List ℕ)) (closing : List ℕ) : Type 0 where
+  pub why : Refusal
+  pub breaks : IfSome left (BreaksOff begun why)
+  pub closing_is : closing ≡ refusal_text (length begun + 1) why
 
 -- what ends the text after these lines, if anything does yet
 abbrev pub IsClosing : List Line → List ℕ → Option (List ℕ) → Option (List ℕ) → List ℕ → Type 0
-IsClosing begun ahead left now closing = (closing ≡ []) ⊎ (ClosesWhole begun ahead now closing ⊎ ClosesBadly begun left closing)
+IsClosing begun ahead left now closing = (closing ≡ []) ⊎ (ClosesWhole begun ahead now closing ⊎ ClosesRefused begun left closing)
 
 -- a front of the text that belongs to the lines read whole was put
 pub record IsPartialRun (left now held put : Option (List ℕ)) : Type 0 where

@@ -3,7 +3,9 @@ use Rattle.std.specs.Prelude.{◌≡◌, ℕ, List, Option, Result, Ok, Err}
 use Rattle.hm_outside.specs.Faults.{Faults, IsQuiet, ReadFailed, PutFailed}
 use Rattle.hm_outside.specs.declared.device.NotPut.{NotPut}
 use Rattle.hm_outside.specs.declared.device.NotPut.TheVariants as not_put
-use Rattle.hm_replay.specs.Replays.{IsWholeRun, IsBadRun, IsCutRun, IsPartialRun}
+use Rattle.hm_replay.specs.Replays.{IsWholeRun, IsRefusedRun, IsCutRun, IsPartialRun}
+use Rattle.hm_schedule.specs.declared.refusal.Refusal.{Refusal}
+use Rattle.hm_schedule.specs.declared.refusal.Refusal.TheVariants as refusal
 use Rattle.hm_show.specs.declared.show.Shown.{Shown}
 use Rattle.hm_show.specs.declared.show.Shown.TheVariants as shown
 use Rattle.hm_show.specs.Shows.{Shows}
@@ -29,6 +31,11 @@ status_of shown.WriteFault = status.WriteFault
 status_of (shown.TooLong number) = status.TooLong number
 status_of shown.NoMemory = status.NoMemory
 
+-- the status where the line of this number is refused
+abbrev pub refused : ℕ → Refusal → Status
+refused line refusal.TooLong = status.TooLong line
+refused line (refusal.Bad reason) = status.BadLine line reason
+
 -- the status behind the end of a run's text, which is this one where all of it was put
 abbrev pub ended : {T : Type 0} → Result T NotPut → Status → Status
 ended (Ok done) whole = whole
@@ -39,11 +46,11 @@ ended (Err not_put.NoMemory) whole = status.NoMemory
 abbrev pub Ends : Status → Option (List ℕ) → Option (List ℕ) → Option (List ℕ) → Option (List ℕ) → Faults → Type 0
 Ends status.Done left now held put f = IsQuiet f × IsWholeRun left now held put
 Ends status.BadWords left now held put f = ⊥
-Ends (status.BadLine line reason) left now held put f = IsQuiet f × IsBadRun left held put line reason
+Ends (status.BadLine line reason) left now held put f = IsQuiet f × IsRefusedRun left held put line (refusal.Bad reason)
 Ends (status.BadFrame frame at reason) left now held put f = ⊥
 Ends status.ReadFault left now held put f = ReadFailed f × IsCutRun left now held put
 Ends status.WriteFault left now held put f = PutFailed f × IsPartialRun left now held put
-Ends (status.TooLong line) left now held put f = ⊥
+Ends (status.TooLong line) left now held put f = IsQuiet f × IsRefusedRun left held put line refusal.TooLong
 Ends status.NoMemory left now held put f = IsQuiet f × IsPartialRun left now held put
 
 -- how a show ends: with the status of one of its answers, and with what that owes

@@ -1,32 +1,32 @@
-ghost use Rattle.std.specs.Prelude.{◌≡◌, ◌≢◌, ◌+◌, ◌≤◌, ◌⊎◌, ℕ, List, [], ◌∷◌, length, Some, codes, flat_map, map, string_bytes};
+ghost use Rattle.std.specs.Prelude.{◌≡◌, ◌≢◌, ◌+◌, ◌≤◌, ◌++◌, ◌⊎◌, ℕ, List, [], ◌∷◌, length, Some, codes, flat_map, map, string_bytes};
 ghost use Rattle.std.specs.List.{AllByRecursion};
 ghost use Rattle.hm_packet.specs.Messages.{Message};
 ghost use Rattle.hm_wire.specs.Packets.{HasSpelling};
 ghost use Rattle.hm_frame.specs.Frames.{frame};
 ghost use Rattle.hm_show.specs.Shows.{max_frames};
 ghost use Rattle.hm_order.specs.Order.{order};
-ghost use Rattle.hm_rules.specs.RunText.{order_text, bad_text};
-ghost use Rattle.hm_schedule.specs.Reasons.{reason_text};
-ghost use Rattle.hm_replay.specs.Statuses.{Ends, EndsShow};
+ghost use Rattle.hm_rules.specs.RunText.{order_text};
+ghost use Rattle.hm_replay.specs.Statuses.{Ends, EndsShow, refused};
 ghost use Rattle.hm_outside.specs.Faults.{Rose};
 ghost use Rattle.hm_outside.specs.Puts.{Puts};
-ghost use Rattle.hm_replay.specs.Replays.{IsWholeRun, IsBadRun};
-ghost use Rattle.hm_schedule.specs.Orders.{IsBegun, IsSchedule, BreaksOff, lines_text};
+ghost use Rattle.hm_replay.specs.Replays.{IsWholeRun, IsRefusedRun, refusal_text};
+ghost use Rattle.hm_schedule.specs.Orders.{IsBegun, IsSchedule, IsOutside, lines_text, stage_of};
+ghost use Rattle.hm_schedule.specs.Refusals.{BreaksOff, IsRefused};
 ghost use Rattle.hm_schedule.specs.declared.line.Line.{Line};
 ghost use Rattle.hm_schedule.specs.declared.line.LineReason.{LineReason};
 
 use crate::events::write_event;
 use crate::law::schedules_run_lawfully;
-use crate::run_text::{write_bad, write_order};
-use crate::status::{Status, ended, status_of};
+use crate::run_text::{write_order, write_refusal};
+use crate::status::{Status, ended, refused, status_of};
 use crate::words::is_word;
 use hm_base::buffer::Text;
 use hm_outside::device::{NotPut, Sink, Source, put_all, put_closing};
 use hm_outside::law::calls_add_up;
 use hm_schedule::law::{bytes_break_off_once, schedules_grow_by_lines};
-use hm_schedule::line::LineReason;
 use hm_schedule::lines::LineReader;
 use hm_schedule::reading::{NextEvent, next_event, read_opening};
+use hm_schedule::refusal::Refusal;
 use hm_show::show::show;
 use hm_world::world::World;
 use std::alloc::Global;
@@ -60,14 +60,23 @@ pub fn run<S: Source, K: Sink>(
     ensures done { map string_bytes words.now ≡ codes "replay" ∷ [] → result ≡ Status.Done
         → IsWholeRun (S.left source.old) (S.left source.new) (K.held sink.old) (K.held sink.new) }
     ensures bad_line { (line : ℕ) → (reason : LineReason) → result ≡ Status.BadLine line reason
-        → IsBadRun (S.left source.old) (K.held sink.old) (K.held sink.new) line reason }
+        → IsRefusedRun (S.left source.old) (K.held sink.old) (K.held sink.new) line (Refusal.Bad reason) }
+    ensures too_long { (line : ℕ) → map string_bytes words.now ≡ codes "replay" ∷ [] → result ≡ Status.TooLong line
+        → IsRefusedRun (S.left source.old) (K.held sink.old) (K.held sink.new) line Refusal.TooLong }
 
-    // BadLine comes wherever a source tells bytes that break off, and names the line there, unless a device fails or memory is wanting.
-    ensures breaks { (begun : List Line) → (bytes : List ℕ) → IsBegun begun → BreaksOff begun bytes → S.left source.old ≡ Some bytes
+    // BadLine and TooLong come wherever a source tells bytes that break off, and name the line there with the first reason, unless a
+    // device fails or memory is wanting.
+    ensures breaks { (begun : List Line) → (why : Refusal) → (bytes : List ℕ) → IsBegun begun → BreaksOff begun why bytes → S.left source.old ≡ Some bytes
         → map string_bytes words.now ≡ codes "replay" ∷ []
         → (Rose (S.faults source.old) (S.faults source.new) → ⊥)
         → (Rose (K.faults sink.old) (K.faults sink.new) → ⊥)
-        → (result ≡ Status.BadLine (length begun + 1) LineReason.Word) ⊎ (result ≡ Status.NoMemory) }
+        → (result ≡ refused (length begun + 1) why) ⊎ (result ≡ Status.NoMemory) }
+    // And so wherever bytes are outside the grammar behind lines of a schedule: there is always such a reason.
+    ensures outside { (begun : List Line) → (rest : List ℕ) → IsBegun begun → IsOutside (stage_of begun) rest → S.left source.old ≡ Some (lines_text begun ++ rest)
+        → map string_bytes words.now ≡ codes "replay" ∷ []
+        → (Rose (S.faults source.old) (S.faults source.new) → ⊥)
+        → (Rose (K.faults sink.old) (K.faults sink.new) → ⊥)
+        → ((why : Refusal) × IsRefused (stage_of begun) rest why × (result ≡ refused (length begun + 1) why)) ⊎ (result ≡ Status.NoMemory) }
 
     // A schedule that is read without a fault, and whose text is put without one, is replayed whole, unless memory is wanting.
     ensures complete { (lines : List Line) → IsSchedule lines → S.left source.old ≡ Some (lines_text lines)
@@ -130,10 +139,10 @@ fn replay<S: Source, K: Sink>(alloc: Global, source: &mut S, sink: &mut K) -> St
             NextEvent::End => {
                 return ended(finish(alloc, &world, &mut text, sink), Status::Done);
             }
-            NextEvent::Bad(reason) => {
+            NextEvent::Refused(refusal) => {
                 let line = opening.lines + world.events() + 1;
-                let closed = refuse(line, reason, &mut text, sink);
-                return ended(closed, Status::BadLine { line, reason });
+                let closed = refuse(line, refusal, &mut text, sink);
+                return ended(closed, refused(line, refusal));
             }
         }
         next = match next_event(&mut reader, source, world.events()) {
@@ -162,17 +171,12 @@ fn finish<K: Sink>(
     }
 }
 
-/// Writes the number of the line that is outside the grammar, counted from 1, which ends the text where the schedule breaks off.
-fn refuse<K: Sink>(
-    line: u32,
-    reason: LineReason,
-    text: &mut Text,
-    sink: &mut K,
-) -> Result<(), NotPut>
-    ensures { Puts result (bad_text line (reason_text reason)) (K.held sink.old) (K.held sink.new) (K.faults sink.old) (K.faults sink.new) }
+/// Writes the number of the line that is refused, counted from 1, and why, which ends the text where the schedule breaks off.
+fn refuse<K: Sink>(line: u32, refusal: Refusal, text: &mut Text, sink: &mut K) -> Result<(), NotPut>
+    ensures { Puts result (refusal_text line refusal) (K.held sink.old) (K.held sink.new) (K.faults sink.old) (K.faults sink.new) }
 {
     text.clear();
-    match write_bad(line, reason, text) {
+    match write_refusal(line, refusal, text) {
         Ok(()) => put_closing(sink, text.as_slice()),
         Err(_) => Err(NotPut::NoMemory),
     }

@@ -1,6 +1,7 @@
 ghost use Rattle.std.specs.Prelude.{◌≡◌, [], ◌∷◌, ◌++◌, OnOk, flat_map, codes};
-ghost use Rattle.hm_rules.specs.RunText.{why_text, bar_text, outcome_line, mark_line, packet_lines, order_text, place_line, bad_text};
+ghost use Rattle.hm_rules.specs.RunText.{why_text, bar_text, outcome_line, mark_line, packet_lines, order_text, place_line, bad_text, too_long_text};
 ghost use Rattle.hm_packet.specs.Messages.{Message};
+ghost use Rattle.hm_replay.specs.Replays.{refusal_text};
 ghost use Rattle.hm_schedule.specs.Reasons.{reason_text};
 ghost use Rattle.hm_wire.specs.Packets.{spelling, HasSpelling};
 
@@ -12,6 +13,7 @@ use hm_base::why::Why;
 use hm_order::mark::Mark;
 use hm_packet::outcome::{Bar, Outcome};
 use hm_schedule::line::LineReason;
+use hm_schedule::refusal::Refusal;
 use hm_wire::laws::{spelling_has_no_fault, spelling_tells_the_packet};
 use hm_wire_text::text::write_spelled;
 
@@ -176,8 +178,27 @@ fn write_place(op: OpId, out: &mut Text) -> Result<(), NoMemory>
     write_bytes(b"\n", out)
 }
 
-/// Appends the last line of a run whose schedule has a line outside the grammar: its number, counted from 1, and why.
-pub fn write_bad(line: u32, reason: LineReason, out: &mut Text) -> Result<(), NoMemory>
+/// Appends the last line of a run whose schedule is refused: the number of the line, counted from 1, and why.
+pub fn write_refusal(line: u32, refusal: Refusal, out: &mut Text) -> Result<(), NoMemory>
+    ensures { OnOk result (out.new.items ≡ out.old.items ++ refusal_text line refusal) }
+{
+    match refusal {
+        Refusal::TooLong => write_too_long(line, out),
+        Refusal::Bad(reason) => write_bad(line, reason, out),
+    }
+}
+
+/// Appends the last line of a run whose schedule is too long.
+fn write_too_long(line: u32, out: &mut Text) -> Result<(), NoMemory>
+    ensures { OnOk result (out.new.items ≡ out.old.items ++ too_long_text line) }
+{
+    write_bytes(b"toolong ", out)?;
+    write_number(u64::from(line), out)?;
+    write_bytes(b"\n", out)
+}
+
+/// Appends the last line of a run whose schedule has a line outside the grammar.
+fn write_bad(line: u32, reason: LineReason, out: &mut Text) -> Result<(), NoMemory>
     ensures { OnOk result (out.new.items ≡ out.old.items ++ bad_text line (reason_text reason)) }
 {
     write_bytes(b"bad ", out)?;

@@ -1,8 +1,9 @@
 ghost use Rattle.std.specs.Prelude.{◌≡◌};
-ghost use Rattle.hm_replay.specs.Statuses.{ended, status_of};
+ghost use Rattle.hm_replay.specs.Statuses.{ended, refused, status_of};
 
 use hm_outside::device::NotPut;
 use hm_schedule::line::LineReason;
+use hm_schedule::refusal::Refusal;
 use hm_show::show::Shown;
 use hm_wire::malformed::Reason;
 
@@ -72,5 +73,15 @@ pub(crate) fn ended(closed: Result<(), NotPut>, whole: Status) -> Status
         Ok(()) => whole,
         Err(NotPut::Failed) => Status::WriteFault,
         Err(NotPut::NoMemory) => Status::NoMemory,
+    }
+}
+
+/// The status where this line of a schedule is refused.
+pub(crate) fn refused(line: u32, refusal: Refusal) -> Status
+    ensures { result ≡ refused line refusal }
+{
+    match refusal {
+        Refusal::TooLong => Status::TooLong { line },
+        Refusal::Bad(reason) => Status::BadLine { line, reason },
     }
 }

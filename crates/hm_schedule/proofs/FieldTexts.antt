@@ -1,7 +1,8 @@
 -- The texts of a line's fields: their bytes, and that each has one meaning.
-use Rattle.std.proofs.Common.{◌≡◌, ◌≢◌, ℕ, suc, ◌+◌, ◌*◌, ◌/◌, ◌%◌, ◌<◌, ◌^◌, List, [], ◌∷◌, ◌++◌, length, get_or, refl, sym, ap, ◌∙◌, arith, lit<}
-use Rattle.std.specs.Prelude.{decimal, codes, All}
+use Rattle.std.proofs.Common.{◌≡◌, ◌≢◌, ℕ, suc, ◌+◌, ◌*◌, ◌/◌, ◌%◌, ◌<◌, ◌^◌, Bool, true, false, List, [], ◌∷◌, ◌++◌, length, get_or, refl, sym, ap, ◌∙◌, arith}
+use Rattle.std.specs.Prelude.{decimal, codes, nat_lt, if◌then◌else◌, All}
 use Rattle.std.specs.List.{AllByRecursion}
+use Rattle.std.proofs.lemmas.Bool.{ltb-true}
 use Rattle.std.proofs.lemmas.List.Elements.{All-nil, All-cons, All-push, All-weaker, All-get_or, All-from_recursion, recursion_from_All}
 use Rattle.std.proofs.lemmas.Fmt.{decimal_by_steps}
 use Rattle.hex.specs.Hex.{IsBytes, encode_lower, encode_with, lower_digits, decode_of}
@@ -12,23 +13,42 @@ use Rattle.hm_schedule.specs.LineWords.{IsWord, IsWordEnd}
 
 -- a printable character other than a space
 abbrev pub IsVisible : ℕ → Type 0
-IsVisible byte = 32 < byte
+IsVisible byte = (32 < byte) × (byte < 127)
+
+abbrev pub are_visible : List ℕ → Bool
+are_visible [] = true
+are_visible (byte ∷ bytes) = if nat_lt 32 byte then (if nat_lt byte 127 then are_visible bytes else false) else false
+
+both : (first second : Bool) → (if first then second else false) ≡ true → (first ≡ true) × (second ≡ true)
+both true second same = (refl, same)
+both false second same = cc
+
+visible_by_recursion : (text : List ℕ) → are_visible text ≡ true → AllByRecursion IsVisible text
+visible_by_recursion [] seen = tt
+visible_by_recursion (byte ∷ bytes) seen =
+    let low = both (nat_lt 32 byte) (if nat_lt byte 127 then are_visible bytes else false) seen in
+    let high = both (nat_lt byte 127) (are_visible bytes) low.1 in
+    ((ltb-true 32 byte low.0, ltb-true byte 127 high.0), visible_by_recursion bytes high.1)
+
+-- a text of which that can be seen
+pub letters : (text : List ℕ) → are_visible text ≡ true → All IsVisible text
+letters text seen = All-from_recursion IsVisible text (visible_by_recursion text seen)
 
 pub word_from_visible : (bytes : List ℕ) → All IsVisible bytes → IsWord bytes
-word_from_visible bytes seen = All-weaker IsVisible (λ byte. byte ≢ 32) (λ byte more same. let more' : 32 < byte = more in omega arith) bytes seen
+word_from_visible bytes seen = All-weaker IsVisible (λ byte. byte ≢ 32) (λ byte more same. let more' : 32 < byte = more.0 in omega arith) bytes seen
 
 pub line_from_visible : (bytes : List ℕ) → All IsVisible bytes → IsLine bytes
-line_from_visible bytes seen = All-weaker IsVisible (λ byte. byte ≢ 10) (λ byte more same. let more' : 32 < byte = more in omega arith) bytes seen
+line_from_visible bytes seen = All-weaker IsVisible (λ byte. byte ≢ 10) (λ byte more same. let more' : 32 < byte = more.0 in omega arith) bytes seen
 
 pub visible_decimal : (n : ℕ) → n < 2 ^ 64 → All IsVisible (decimal n)
 visible_decimal n fits =
     decimal_by_steps (λ k digits. All IsVisible digits)
-    (λ k few. All-cons IsVisible (48 + k) [] (omega arith) (All-nil IsVisible))
-    (λ k digits more seen. All-push IsVisible digits (48 + k % 10) seen (omega arith))
+    (λ k few. All-cons IsVisible (48 + k) [] (omega arith, omega arith) (All-nil IsVisible))
+    (λ k digits more seen. All-push IsVisible digits (48 + k % 10) seen (omega arith, omega arith))
     n fits
 
 visible_digits : All IsVisible lower_digits
-visible_digits = All-from_recursion IsVisible lower_digits (lit< tt, (lit< tt, (lit< tt, (lit< tt, (lit< tt, (lit< tt, (lit< tt, (lit< tt, (lit< tt, (lit< tt, (lit< tt, (lit< tt, (lit< tt, (lit< tt, (lit< tt, (lit< tt, tt))))))))))))))))
+visible_digits = letters lower_digits refl
 
 visible_digit : (k : ℕ) → k < 16 → IsVisible (get_or lower_digits k 0)
 visible_digit k few = All-get_or IsVisible lower_digits k 0 few visible_digits
@@ -45,7 +65,7 @@ bytes_by_recursion [] small = tt
 bytes_by_recursion (b ∷ bytes) small = (small 0, bytes_by_recursion bytes (λ i. small (suc i)))
 
 pub visible_value : (v : List ℕ) → IsBytes v → All IsVisible (value_text v)
-visible_value [] small = All-from_recursion IsVisible (codes "empty") (lit< tt, (lit< tt, (lit< tt, (lit< tt, (lit< tt, tt)))))
+visible_value [] small = letters (codes "empty") refl
 visible_value (b ∷ bytes) small = All-from_recursion IsVisible (encode_lower (b ∷ bytes)) (visible_hex (b ∷ bytes) (bytes_by_recursion (b ∷ bytes) small))
 
 -- no hexadecimal text has as many digits as `empty` has letters

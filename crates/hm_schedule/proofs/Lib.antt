@@ -6,5 +6,11 @@ mod BufferParts
 mod LineFronts
 mod LinePushes
 mod GeneratedLines
+mod Words
+mod Reasons
+mod LawfulReasons
+mod FieldFaults
+mod FirstReasons
+mod Refused
 mod NotNext
 mod Opened

@@ -2,13 +2,10 @@
 use Rattle.std.proofs.Common.{◌≡◌, ◌≢◌, ℕ, ◌+◌, ◌<◌, ◌≤◌, List, [], ◌∷◌, ◌++◌, length, get_or, take, Option, Some, None, refl, sym, ap, subst, ◌∙◌, append_assoc, arith}
 use Rattle.std.specs.List.{AllByRecursion}
 use Rattle.std.specs.Io.KnownBytes.{Consumes, IsAtEnd}
-use Rattle.std.proofs.lemmas.List.{length-append, length-take, get_or_at, get_or-take, take-append-le, append-nil}
+use Rattle.std.proofs.lemmas.List.{length-append, length-take, get_or_at, get_or-take}
 use Rattle.std.proofs.lemmas.List.Elements.{All-get_or, recursion_from_All}
 use Rattle.hm_schedule.specs.LineTexts.{IsLine, ended}
-use Rattle.hm_schedule.specs.Schedules.{IsLawful, line_text}
-use Rattle.hm_schedule.specs.declared.line.Line.{Line}
-use Rattle.hm_schedule.proofs.LineLemmas.{lawful_line, lawful_len}
-use Rattle.hm_schedule.specs.Lines.{Moves, IsOverlong, max_line_len}
+use Rattle.hm_schedule.specs.Lines.{Moves}
 
 -- ---- bytes
 
@@ -32,7 +29,7 @@ one_line a b r s p q same =
     lines_by_recursion a b r s (recursion_from_All (λ byte. byte ≢ 10) a p) (recursion_from_All (λ byte. byte ≢ 10) b q) (sym (ended_front a r) ∙ same ∙ ended_front b s)
 
 -- bytes with no end of a line in their front have none where a line would end in it
-no_end_in_front : (bytes a r : List ℕ) (n : ℕ) → IsLine (take n bytes) → n ≤ length bytes → length a < n → bytes ≡ ended a ++ r → ⊥
+pub no_end_in_front : (bytes a r : List ℕ) (n : ℕ) → IsLine (take n bytes) → n ≤ length bytes → length a < n → bytes ≡ ended a ++ r → ⊥
 no_end_in_front bytes a r n none within short same =
     let here : get_or bytes (length a) 0 ≡ 10 = ap (λ (l : List ℕ). get_or l (length a) 0) (same ∙ ended_front a r) ∙ get_or_at a 10 r 0 (length a) refl in
     let inside : length a < length (take n bytes) = omega (arith, length-take n bytes) in
@@ -68,50 +65,10 @@ told old new bytes taken cut (Some rest) source parts = record {
 pub told_moves : (old new bytes cut : List ℕ) (left now : Option (List ℕ)) → left ≡ Some bytes → Moves old new left now cut → IsTold old new bytes cut now
 told_moves old new bytes cut left now is moves = told old new bytes moves.taken cut now (subst (λ (l : Option (List ℕ)). Consumes l now moves.taken) is moves.source) moves.parts
 
-end_of : (rest : List ℕ) (now : Option (List ℕ)) → now ≡ Some rest → IsAtEnd now → rest ≡ []
+pub end_of : (rest : List ℕ) (now : Option (List ℕ)) → now ≡ Some rest → IsAtEnd now → rest ≡ []
 end_of rest now is end = subst IsAtEnd is end
 
--- a line that was cut off is the lawful line that stands there
-pub cut_is : (old new bytes front more : List ℕ) (left now : Option (List ℕ)) (l : Line) → left ≡ Some bytes → Moves old new left now (ended front) → IsLine front → IsLawful l
-    → old ++ bytes ≡ ended (line_text l) ++ more → front ≡ line_text l
-cut_is old new bytes front more left now l is moves line lawful same =
-    let t = told_moves old new bytes (ended front) left now is moves in
-    (one_line front (line_text l) (new ++ t.rest) more line (lawful_line l lawful) (sym t.parts ∙ same)).0
-
+-- an ended line is some bytes
 pub ended_some : (a r : List ℕ) → ended a ++ r ≡ [] → ⊥
 ended_some [] r same = cc
 ended_some (x ∷ a) r same = cc
-
--- a line that was cut off stands before no end
-pub cut_some : (old new bytes front : List ℕ) (left now : Option (List ℕ)) → left ≡ Some bytes → Moves old new left now (ended front) → old ++ bytes ≡ [] → ⊥
-cut_some old new bytes front left now is moves same =
-    let t = told_moves old new bytes (ended front) left now is moves in
-    ended_some front (new ++ t.rest) (sym t.parts ∙ same)
-
--- no line stands where the input ends within one
-pub unfinished_none : (old new bytes line more : List ℕ) (left now : Option (List ℕ)) → left ≡ Some bytes → Moves old new left now [] → IsLine new → IsAtEnd now → old ++ bytes ≡ ended line ++ more → ⊥
-unfinished_none old new bytes line more left now is moves none end same =
-    let t = told_moves old new bytes [] left now is moves in
-    let whole : old ++ bytes ≡ new = t.parts ∙ ap (λ (l : List ℕ). new ++ l) (end_of t.rest now t.now_is end) ∙ append-nil new in
-    no_line_in new line more none (sym whole ∙ same)
-
--- no lawful line stands where more bytes come than a line may have
-pub overlong_none : (old new bytes more : List ℕ) (left now : Option (List ℕ)) (l : Line) → left ≡ Some bytes → Moves old new left now [] → IsOverlong new → IsLawful l
-    → old ++ bytes ≡ ended (line_text l) ++ more → ⊥
-overlong_none old new bytes more left now l is moves over lawful same =
-    let t = told_moves old new bytes [] left now is moves in
-    let long : max_line_len < length new = over.long in
-    let short : length (line_text l) ≤ max_line_len = lawful_len l lawful in
-    let whole : length (new ++ t.rest) ≡ length new + length t.rest = length-append new t.rest in
-    no_end_in_front (new ++ t.rest) (line_text l) more (max_line_len + 1)
-    (subst IsLine (sym (take-append-le (max_line_len + 1) new t.rest (omega arith))) over.line)
-    (omega arith) (omega arith) (sym t.parts ∙ same)
-
--- something is ahead where more bytes come than a line may have
-pub overlong_some : (old new bytes : List ℕ) (left now : Option (List ℕ)) → left ≡ Some bytes → Moves old new left now [] → IsOverlong new → old ++ bytes ≡ [] → ⊥
-overlong_some old new bytes left now is moves over same =
-    let t = told_moves old new bytes [] left now is moves in
-    let long : max_line_len < length new = over.long in
-    let none : length (new ++ t.rest) ≡ 0 = ap length (sym t.parts ∙ same) in
-    let whole : length (new ++ t.rest) ≡ length new + length t.rest = length-append new t.rest in
-    omega arith

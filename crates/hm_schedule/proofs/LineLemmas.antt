@@ -1,9 +1,9 @@
 -- A lawful line has no end of a line in it, and is short.
-use Rattle.std.proofs.Common.{◌≡◌, ◌≢◌, ℕ, ◌+◌, ◌*◌, ◌<◌, ◌≤◌, ◌^◌, List, [], ◌∷◌, ◌++◌, length, arith, lit<, lit≤}
+use Rattle.std.proofs.Common.{◌≡◌, ◌≢◌, ℕ, ◌+◌, ◌*◌, ◌<◌, ◌≤◌, ◌^◌, List, [], ◌∷◌, ◌++◌, length, refl, arith, lit<, lit≤}
 use Rattle.std.specs.Prelude.{decimal, codes, All}
 use Rattle.std.specs.List.{AllByRecursion}
 use Rattle.std.proofs.lemmas.List.{length-append}
-use Rattle.std.proofs.lemmas.List.Elements.{All-nil, All-cons, All-append, All-from_recursion}
+use Rattle.std.proofs.lemmas.List.Elements.{All-nil, All-cons, All-append}
 use Rattle.std.proofs.lemmas.Fmt.{length-decimal-le}
 use Rattle.hex.specs.Hex.{lower_digits}
 use Rattle.hex.proofs.HexLemmas.{length-encode_with}
@@ -21,7 +21,7 @@ use Rattle.hm_schedule.specs.declared.keyword.Keyword.{Keyword}
 use Rattle.hm_schedule.specs.declared.keyword.Keyword.TheVariants as keyword
 use Rattle.hm_schedule.specs.declared.line.Line.{Line}
 use Rattle.hm_schedule.specs.declared.line.Line.TheVariants as line
-use Rattle.hm_schedule.proofs.FieldTexts.{IsVisible, visible_decimal, visible_value, line_from_visible}
+use Rattle.hm_schedule.proofs.FieldTexts.{IsVisible, letters, visible_decimal, visible_value, line_from_visible}
 use Rattle.hm_schedule.proofs.Names.{visible_keyword}
 
 -- a word of printable characters, and not many
@@ -29,7 +29,7 @@ pub record IsShortWord (word : List ℕ) : Type 0 where
   pub seen : All IsVisible word
   pub short : length word ≤ 128
 
-abbrev AreShort : List (List ℕ) → Type 0
+abbrev pub AreShort : List (List ℕ) → Type 0
 AreShort words = AllByRecursion IsShortWord words
 
 spaced_line : (words : List (List ℕ)) → AreShort words → IsLine (spaced words)
@@ -107,15 +107,15 @@ short_event event.Retire lawful = tt
 short_event event.Start lawful = tt
 
 short_chain : IsShortWord (codes "chain")
-short_chain = record { seen = All-from_recursion IsVisible (codes "chain") (lit< tt, (lit< tt, (lit< tt, (lit< tt, (lit< tt, tt))))); short = lit≤ tt }
+short_chain = record { seen = letters (codes "chain") refl; short = lit≤ tt }
 
 short_primary : IsShortWord (codes "primary")
-short_primary = record { seen = All-from_recursion IsVisible (codes "primary") (lit< tt, (lit< tt, (lit< tt, (lit< tt, (lit< tt, (lit< tt, (lit< tt, tt))))))); short = lit≤ tt }
+short_primary = record { seen = letters (codes "primary") refl; short = lit≤ tt }
 
 short_vr : IsShortWord (codes "vr")
-short_vr = record { seen = All-from_recursion IsVisible (codes "vr") (lit< tt, (lit< tt, tt)); short = lit≤ tt }
+short_vr = record { seen = letters (codes "vr") refl; short = lit≤ tt }
 
-short_fields : (l : Line) → IsLawful l → AreShort (field_words l)
+pub short_fields : (l : Line) → IsLawful l → AreShort (field_words l)
 short_fields (line.Group kind.Chain size) lawful = let few : size ≤ 7 = lawful.1 in (short_chain, (short_number size (omega arith), tt))
 short_fields (line.Group kind.Primary size) lawful = let few : size ≤ 7 = lawful.1 in (short_primary, (short_number size (omega arith), tt))
 short_fields (line.Group kind.Vr size) lawful = let few : size ≤ 7 = lawful.1 in (short_vr, (short_number size (omega arith), tt))
@@ -145,7 +145,7 @@ few_fields (line.Event (event.Timeout replica)) = lit≤ tt
 few_fields (line.Event event.Retire) = lit≤ tt
 few_fields (line.Event event.Start) = lit≤ tt
 
-short_words : (l : Line) → IsLawful l → AreShort (line_words l)
+pub short_words : (l : Line) → IsLawful l → AreShort (line_words l)
 short_words l lawful = (short_keyword (keyword_in l), short_fields l lawful)
 
 -- a lawful line has no end of a line in it

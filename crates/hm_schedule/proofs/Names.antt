@@ -1,23 +1,21 @@
 -- The first words of lines, and the words for protocols.
-use Rattle.std.proofs.Common.{◌≡◌, ◌≢◌, ℕ, ◌≤◌, Bool, true, false, eqb, List, [], ◌∷◌, ◌++◌, Option, Some, None, refl, sym, ap, ◌∙◌, lit<}
+use Rattle.std.proofs.Common.{◌≡◌, ℕ, Bool, true, false, eqb, List, [], ◌∷◌, ◌++◌, Option, Some, None, refl, sym, ap, ◌∙◌}
 use Rattle.std.specs.Prelude.{codes, bytes_eq, if◌then◌else◌}
 use Rattle.std.specs.Cmp.Lexicographic.{pointwise}
-use Rattle.std.specs.List.{AllByRecursion}
 use Rattle.std.proofs.lemmas.Bool.Decides.{Decides-eqb}
 use Rattle.std.proofs.lemmas.Slice.Eq.{slice_eq-Decides, bytes_eq-Decides}
-use Rattle.std.proofs.lemmas.List.Elements.{All-from_recursion}
 use Rattle.std.proofs.lemmas.Option.{same_Some, none-some}
 use Rattle.hm_base.specs.Spellings.{spaced}
 use Rattle.hm_base.specs.declared.node.GroupKind.{GroupKind}
 use Rattle.hm_base.specs.declared.node.GroupKind.TheVariants as kind
 use Rattle.hm_schedule.specs.LineWords.{IsWord, IsWordEnd, SplitsWord}
 use Rattle.hm_schedule.specs.Names.{keyword_text, rarely_named, named, kind_text, kind_named}
-use Rattle.hm_schedule.specs.Schedules.{IsLawfulGroup, keyword_in, field_words, line_text}
+use Rattle.hm_schedule.specs.Schedules.{keyword_in, field_words, line_text}
 use Rattle.hm_schedule.specs.Reads.{Reads}
 use Rattle.hm_schedule.specs.declared.keyword.Keyword.{Keyword}
 use Rattle.hm_schedule.specs.declared.keyword.Keyword.TheVariants as keyword
 use Rattle.hm_schedule.specs.declared.line.Line.{Line}
-use Rattle.hm_schedule.proofs.FieldTexts.{IsVisible, word_from_visible, one_split}
+use Rattle.hm_schedule.proofs.FieldTexts.{IsVisible, letters, word_from_visible, one_split}
 use Rattle.std.specs.Prelude.{All}
 
 -- a comparison of slices that said yes
@@ -85,28 +83,25 @@ module _ (word : List ℕ) (k : Keyword) where
 
 -- ---- keywords are words
 
-letters : (text : List ℕ) → AllByRecursion IsVisible text → All IsVisible text
-letters text seen = All-from_recursion IsVisible text seen
-
 pub visible_keyword : (k : Keyword) → All IsVisible (keyword_text k)
-visible_keyword keyword.Group = letters (codes "group") (lit< tt, (lit< tt, (lit< tt, (lit< tt, (lit< tt, tt)))))
-visible_keyword keyword.Table = letters (codes "table") (lit< tt, (lit< tt, (lit< tt, (lit< tt, (lit< tt, tt)))))
-visible_keyword keyword.Life = letters (codes "life") (lit< tt, (lit< tt, (lit< tt, (lit< tt, tt))))
-visible_keyword keyword.Log = letters (codes "log") (lit< tt, (lit< tt, (lit< tt, tt)))
-visible_keyword keyword.Write = letters (codes "write") (lit< tt, (lit< tt, (lit< tt, (lit< tt, (lit< tt, tt)))))
-visible_keyword keyword.Read = letters (codes "read") (lit< tt, (lit< tt, (lit< tt, (lit< tt, tt))))
-visible_keyword keyword.Resend = letters (codes "resend") (lit< tt, (lit< tt, (lit< tt, (lit< tt, (lit< tt, (lit< tt, tt))))))
-visible_keyword keyword.Deliver = letters (codes "deliver") (lit< tt, (lit< tt, (lit< tt, (lit< tt, (lit< tt, (lit< tt, (lit< tt, tt)))))))
-visible_keyword keyword.Next = letters (codes "next") (lit< tt, (lit< tt, (lit< tt, (lit< tt, tt))))
-visible_keyword keyword.Drop = letters (codes "drop") (lit< tt, (lit< tt, (lit< tt, (lit< tt, tt))))
-visible_keyword keyword.Tick = letters (codes "tick") (lit< tt, (lit< tt, (lit< tt, (lit< tt, tt))))
-visible_keyword keyword.Stop = letters (codes "stop") (lit< tt, (lit< tt, (lit< tt, (lit< tt, tt))))
-visible_keyword keyword.Remove = letters (codes "remove") (lit< tt, (lit< tt, (lit< tt, (lit< tt, (lit< tt, (lit< tt, tt))))))
-visible_keyword keyword.Timeout = letters (codes "timeout") (lit< tt, (lit< tt, (lit< tt, (lit< tt, (lit< tt, (lit< tt, (lit< tt, tt)))))))
-visible_keyword keyword.Retire = letters (codes "retire") (lit< tt, (lit< tt, (lit< tt, (lit< tt, (lit< tt, (lit< tt, tt))))))
-visible_keyword keyword.Start = letters (codes "start") (lit< tt, (lit< tt, (lit< tt, (lit< tt, (lit< tt, tt)))))
+visible_keyword keyword.Group = letters (codes "group") refl
+visible_keyword keyword.Table = letters (codes "table") refl
+visible_keyword keyword.Life = letters (codes "life") refl
+visible_keyword keyword.Log = letters (codes "log") refl
+visible_keyword keyword.Write = letters (codes "write") refl
+visible_keyword keyword.Read = letters (codes "read") refl
+visible_keyword keyword.Resend = letters (codes "resend") refl
+visible_keyword keyword.Deliver = letters (codes "deliver") refl
+visible_keyword keyword.Next = letters (codes "next") refl
+visible_keyword keyword.Drop = letters (codes "drop") refl
+visible_keyword keyword.Tick = letters (codes "tick") refl
+visible_keyword keyword.Stop = letters (codes "stop") refl
+visible_keyword keyword.Remove = letters (codes "remove") refl
+visible_keyword keyword.Timeout = letters (codes "timeout") refl
+visible_keyword keyword.Retire = letters (codes "retire") refl
+visible_keyword keyword.Start = letters (codes "start") refl
 
-spaced_ends : (words : List (List ℕ)) → IsWordEnd (spaced words)
+pub spaced_ends : (words : List (List ℕ)) → IsWordEnd (spaced words)
 spaced_ends [] = tt
 spaced_ends (w ∷ ws) = refl
 
@@ -133,9 +128,9 @@ no_keyword bytes word fields l split none same =
 -- ---- protocols are words
 
 pub word_of_kind : (k : GroupKind) → IsWord (kind_text k)
-word_of_kind kind.Chain = word_from_visible (codes "chain") (letters (codes "chain") (lit< tt, (lit< tt, (lit< tt, (lit< tt, (lit< tt, tt))))))
-word_of_kind kind.Primary = word_from_visible (codes "primary") (letters (codes "primary") (lit< tt, (lit< tt, (lit< tt, (lit< tt, (lit< tt, (lit< tt, (lit< tt, tt))))))))
-word_of_kind kind.Vr = word_from_visible (codes "vr") (letters (codes "vr") (lit< tt, (lit< tt, tt)))
+word_of_kind kind.Chain = word_from_visible (codes "chain") (letters (codes "chain") refl)
+word_of_kind kind.Primary = word_from_visible (codes "primary") (letters (codes "primary") refl)
+word_of_kind kind.Vr = word_from_visible (codes "vr") (letters (codes "vr") refl)
 
 -- each is the one that is named so
 pub named_kind : (k : GroupKind) → kind_named (kind_text k) ≡ Some k

@@ -3,47 +3,21 @@ use Rattle.std.proofs.Common.{◌≡◌, ◌≢◌, ℕ, ◌+◌, List, [], ◌�
 use Rattle.std.specs.Prelude.{fold}
 use Rattle.hm_base.specs.Spellings.{spaced}
 use Rattle.hm_schedule.specs.declared.event.Event.TheVariants as event
-use Rattle.hm_schedule.specs.LineWords.{IsWordEnd, SplitsWord}
+use Rattle.hm_schedule.specs.LineWords.{SplitsWord}
 use Rattle.hm_schedule.specs.Names.{keyword_text}
-use Rattle.hm_schedule.specs.Orders.{Stage, IsNext, ComeFrom, IsBegun, IsSchedule, IsOutside, BreaksOff, after, events_at, line_bytes, lines_text}
+use Rattle.hm_schedule.specs.Orders.{Stage, IsNext, ComeFrom, IsBegun, IsSchedule, IsOutside, after, stage_of, events_at, line_bytes, lines_text}
 use Rattle.hm_schedule.specs.Schedules.{line_text, keyword_in, field_words}
 use Rattle.hm_schedule.specs.declared.keyword.Keyword.{Keyword}
 use Rattle.hm_schedule.specs.declared.keyword.Keyword.TheVariants as keyword
 use Rattle.hm_schedule.specs.declared.line.Line.{Line}
 use Rattle.hm_schedule.specs.declared.line.Line.TheVariants as line
-use Rattle.hm_schedule.specs.declared.line.LineReason.{LineReason}
+use Rattle.hm_schedule.specs.declared.refusal.Refusal.{Refusal}
+use Rattle.hm_schedule.specs.Refusals.{BreaksOff, IsRefused}
 use Rattle.hm_schedule.proofs.FieldTexts.{word_from_visible}
 use Rattle.hm_schedule.proofs.LineLemmas.{lawful_line}
-use Rattle.hm_schedule.proofs.Names.{named_keyword, visible_keyword, keyword_is}
-use Rattle.hm_schedule.specs.declared.reading.Next.{Next}
-use Rattle.hm_schedule.specs.declared.reading.Next.TheVariants as next
+use Rattle.hm_schedule.proofs.Names.{named_keyword, visible_keyword, keyword_is, spaced_ends}
+use Rattle.hm_schedule.proofs.Refused.{one_refusal, refused_outside}
 use Rattle.hm_schedule.proofs.LineFronts.{one_line, ended_some}
-
-bad_is_line : (reason : LineReason) (l : Line) → next.Bad reason ≡ next.Line l → ⊥
-bad_is_line reason l same = cc
-
-bad_is_end : (reason : LineReason) → next.Bad reason ≡ next.End → ⊥
-bad_is_end reason same = cc
-
-setting_is_fresh : (place : ℕ) → Stage.Setting place ≢ Stage.Fresh
-setting_is_fresh place same = cc
-
-running_is_fresh : (events : ℕ) → Stage.Running events ≢ Stage.Fresh
-running_is_fresh events same = cc
-
--- where no line came
-pub outside_bad : (stage : Stage) (bytes : List ℕ) (reason : LineReason) (n : Next) → n ≡ next.Bad reason
-    → ((l : Line) (more : List ℕ) → IsNext stage l → bytes ≡ line_bytes l ++ more → n ≡ next.Line l) → (stage ≢ Stage.Fresh → bytes ≡ [] → n ≡ next.End)
-    → IsOutside stage bytes
-outside_bad Stage.Fresh bytes reason n is line end = λ l more may same. bad_is_line reason l (sym is ∙ line l more may same)
-outside_bad (Stage.Setting place) bytes reason n is line end = (
-  λ none. bad_is_end reason (sym is ∙ end (setting_is_fresh place) none),
-  λ l more may same. bad_is_line reason l (sym is ∙ line l more may same),
-)
-outside_bad (Stage.Running events) bytes reason n is line end = (
-  λ none. bad_is_end reason (sym is ∙ end (running_is_fresh events) none),
-  λ l more may same. bad_is_line reason l (sym is ∙ line l more may same),
-)
 
 -- ---- a schedule's bytes
 
@@ -91,10 +65,6 @@ behind_is_fresh stage keyword.Timeout same = cc
 behind_is_fresh stage keyword.Retire same = cc
 behind_is_fresh stage keyword.Start same = cc
 
-spaced_ends : (ws : List (List ℕ)) → IsWordEnd (spaced ws)
-spaced_ends [] = tt
-spaced_ends (w ∷ ws) = refl
-
 splits : (l : Line) → SplitsWord (line_text l) (keyword_text (keyword_in l)) (spaced (field_words l))
 splits l = record {
   parts = refl;
@@ -131,10 +101,16 @@ nowhere stage (x ∷ xs) (l ∷ ls) rest come comes some same outside =
     nowhere (after stage x) xs ls rest come.1 (subst (λ (t : Stage). ComeFrom t ls) (one_stage stage l x parts.0) comes.1)
     (λ fresh. absurd (behind_is_fresh stage (keyword_in x) (sym (after_is_behind stage x) ∙ fresh))) parts.1 outside
 
--- bytes are lines that may come, and then outside the grammar, in one way as to how many lines
+-- where bytes are lines that may come, and then outside the grammar
+record Apart (stage : Stage) (begun others : List Line) (rest more : List ℕ) : Type 0 where
+  count : length begun ≡ length others
+  rest_is : rest ≡ more
+  stage_is : fold after stage begun ≡ fold after stage others
+
+-- they are so in one way
 behind_one : (stage : Stage) (begun others : List Line) (rest more : List ℕ) → ComeFrom stage begun → ComeFrom stage others → lines_text begun ++ rest ≡ lines_text others ++ more
-    → IsOutside (fold after stage begun) rest → IsOutside (fold after stage others) more → length begun ≡ length others
-behind_one stage [] [] rest more come comes same outside also = refl
+    → IsOutside (fold after stage begun) rest → IsOutside (fold after stage others) more → Apart stage begun others rest more
+behind_one stage [] [] rest more come comes same outside also = record { count = refl; rest_is = same; stage_is = refl }
 behind_one stage [] (l ∷ ls) rest more come comes same outside also =
     absurd (goes_on stage rest (lines_text ls ++ more) l comes.0 outside (same ∙ append_assoc (line_bytes l) (lines_text ls) more))
 behind_one stage (x ∷ xs) [] rest more come comes same outside also =
@@ -144,15 +120,28 @@ behind_one stage (x ∷ xs) (l ∷ ls) rest more come comes same outside also =
     one_line (line_text x) (line_text l) (lines_text xs ++ rest) (lines_text ls ++ more) (lawful_line x come.0.0) (lawful_line l comes.0.0)
     (sym (append_assoc (line_bytes x) (lines_text xs) rest) ∙ same ∙ append_assoc (line_bytes l) (lines_text ls) more) in
     let here : after stage l ≡ after stage x = sym (one_stage stage x l parts.0) in
-    let others : length xs ≡ length ls =
-    behind_one (after stage x) xs ls rest more come.1 (subst (λ (t : Stage). ComeFrom t ls) here comes.1) parts.1 outside (subst (λ (t : Stage). IsOutside (fold after t ls) more) here also) in
-    omega arith
+    let apart = behind_one (after stage x) xs ls rest more come.1 (subst (λ (t : Stage). ComeFrom t ls) here comes.1) parts.1 outside (subst (λ (t : Stage). IsOutside (fold after t ls) more) here also) in
+    let count : length xs ≡ length ls = apart.count in
+    record { count = omega arith; rest_is = apart.rest_is; stage_is = apart.stage_is ∙ ap (λ (t : Stage). fold after t ls) (sym here) }
 
--- bytes break off behind one number of lines
-pub breaks_once : (begun others : List Line) (bytes : List ℕ) → IsBegun begun → IsBegun others → BreaksOff begun bytes → BreaksOff others bytes → length begun ≡ length others
-breaks_once begun others bytes lawful also breaks off =
-    behind_one Stage.Fresh begun others breaks.rest off.rest lawful also (sym breaks.parts ∙ off.parts) breaks.outside off.outside
+-- bytes break off behind one number of lines and for one reason
+pub breaks_once : (begun others : List Line) (why other : Refusal) (bytes : List ℕ) → IsBegun begun → IsBegun others → BreaksOff begun why bytes → BreaksOff others other bytes
+    → (length begun ≡ length others) × (why ≡ other)
+breaks_once begun others why other bytes lawful also breaks off =
+    let apart =
+    behind_one Stage.Fresh begun others breaks.rest off.rest lawful also (sym breaks.parts ∙ off.parts) (refused_outside (stage_of begun) breaks.rest why breaks.refused)
+    (refused_outside (stage_of others) off.rest other off.refused) in
+    let here : IsRefused (stage_of others) off.rest why =
+    subst (λ (t : Stage). IsRefused t off.rest why) apart.stage_is (subst (λ (l : List ℕ). IsRefused (stage_of begun) l why) apart.rest_is breaks.refused) in
+    (apart.count, one_refusal (stage_of others) off.rest why other here off.refused)
 
--- a schedule's bytes break off nowhere
-pub breaks_nowhere : (begun lines : List Line) → IsBegun begun → IsSchedule lines → BreaksOff begun (lines_text lines) → ⊥
-breaks_nowhere begun lines lawful schedule breaks = nowhere Stage.Fresh begun lines breaks.rest lawful schedule.begun (λ fresh. schedule.group) breaks.parts breaks.outside
+-- bytes that are outside the grammar behind lines break off there
+pub breaks_there : (begun others : List Line) (why : Refusal) (rest : List ℕ) → IsBegun begun → IsBegun others → BreaksOff begun why (lines_text others ++ rest) → IsOutside (stage_of others) rest
+    → (length begun ≡ length others) × IsRefused (stage_of others) rest why
+breaks_there begun others why rest lawful also breaks outside =
+    let apart = behind_one Stage.Fresh begun others breaks.rest rest lawful also (sym breaks.parts) (refused_outside (stage_of begun) breaks.rest why breaks.refused) outside in
+    (apart.count, subst (λ (t : Stage). IsRefused t rest why) apart.stage_is (subst (λ (l : List ℕ). IsRefused (stage_of begun) l why) apart.rest_is breaks.refused))
+
+-- a schedule's bytes are nowhere outside the grammar
+pub never_outside : (begun lines : List Line) (rest : List ℕ) → IsBegun begun → IsSchedule lines → lines_text lines ≡ lines_text begun ++ rest → IsOutside (stage_of begun) rest → ⊥
+never_outside begun lines rest lawful schedule same outside = nowhere Stage.Fresh begun lines rest lawful schedule.begun (λ fresh. schedule.group) same outside

@@ -13,7 +13,9 @@ pub mod Reads
 pub mod Lines
 pub mod Fills
 pub mod Buffers
+pub mod FirstReasons
 pub mod Stages
+pub mod Refusals
 pub mod Openings
 pub mod Nexts
 pub mod Fronts

@@ -1,5 +1,5 @@
 -- An input as lines, each ended by the byte 10.
-use Rattle.std.specs.Prelude.{◌≡◌, ℕ, ◌+◌, ◌<◌, ◌≤◌, List, [], ◌∷◌, ◌++◌, length, take, Option, Result, MatchResult}
+use Rattle.std.specs.Prelude.{◌≡◌, ℕ, ◌+◌, ◌<◌, ◌≤◌, Bool, true, false, List, [], ◌∷◌, ◌++◌, length, take, Option, Result, MatchResult}
 use Rattle.std.specs.Io.KnownBytes.{Consumes, IsAtEnd}
 use Rattle.hm_schedule.specs.LineTexts.{IsLine, ended}
 use Rattle.hm_schedule.specs.declared.lines.TheConstants.{MAX_LINE_LEN}
@@ -43,6 +43,7 @@ pub record FindsNone (Why : Type 0) (old : List ℕ) (new : Reading) (left now :
 pub record IsUnfinished (ahead : List ℕ) (now : Option (List ℕ)) : Type 0 where
   pub some : 0 < length ahead
   pub line : IsLine ahead
+  pub short : length ahead ≤ max_line_len
   pub end : IsAtEnd now
 
 -- the source's end, behind the end of a line
@@ -59,6 +60,15 @@ Finds found.Long old new left now = FindsNone (IsOverlong new.ahead) old new lef
 -- what was found, or a fault within a line
 abbrev pub FindsOrFails : {E : Type 0} → Result Found E → List ℕ → Reading → Option (List ℕ) → Option (List ℕ) → Type 0
 FindsOrFails result old new left now = MatchResult result (λ found. Finds found old new left now) (λ _. FindsNone (IsLine new.ahead) old new left now)
+
+-- whether a byte is left
+abbrev pub HasMore : Bool → List ℕ → List ℕ → Option (List ℕ) → Option (List ℕ) → Type 0
+HasMore true old new left now = Moves old new left now [] × (0 < length new)
+HasMore false old new left now = Moves old new left now [] × IsFinished new now
+
+-- or a fault where none was ahead
+abbrev pub HasMoreOrFails : {E : Type 0} → Result Bool E → List ℕ → List ℕ → Option (List ℕ) → Option (List ℕ) → Type 0
+HasMoreOrFails result old new left now = MatchResult result (λ more. HasMore more old new left now) (λ _. Moves old new left now [] × (new ≡ []))
 
 -- the bytes ahead were looked at, and a line was cut off if one was there
 abbrev pub Cuts : Front → List ℕ → Reading → Type 0

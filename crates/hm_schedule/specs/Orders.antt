@@ -1,6 +1,6 @@
 -- Which line may come next of a schedule: the group's comes first, then at most one line each of the table, the switches' life and the
 -- logs' capacity, in this order, and then events. What a schedule's lines say.
-use Rattle.std.specs.Prelude.{◌≡◌, ◌≢◌, ℕ, ◌+◌, ◌<◌, List, [], ◌∷◌, ◌++◌, fold, filter_map, flat_map, Option, Some, None}
+use Rattle.std.specs.Prelude.{◌≢◌, ℕ, ◌+◌, ◌<◌, List, [], ◌∷◌, ◌++◌, fold, filter_map, flat_map, Option, Some, None}
 use Rattle.hm_base.specs.declared.node.GroupKind.{GroupKind}
 use Rattle.hm_base.specs.declared.node.GroupKind.TheVariants.{Chain}
 use Rattle.hm_rules.specs.Events as rule
@@ -78,12 +78,6 @@ HasNoNext stage bytes = (l : Line) → (more : List ℕ) → IsNext stage l → 
 abbrev pub IsOutside : Stage → List ℕ → Type 0
 IsOutside Stage.Fresh bytes = HasNoNext Stage.Fresh bytes
 IsOutside stage bytes = (bytes ≢ []) × HasNoNext stage bytes
-
--- bytes are these lines, and then bytes that are outside the grammar
-pub record BreaksOff (begun : List Line) (bytes : List ℕ) : Type 0 where
-  pub rest : List ℕ
-  pub parts : bytes ≡ lines_text begun ++ rest
-  pub outside : IsOutside (stage_of begun) rest
 
 -- ---- what the lines say
 

@@ -21,7 +21,7 @@ pub(crate) fn split_word(text: &[u8]) -> (&[u8], &[u8])
 }
 
 /// The word behind a space, and the rest. None exactly where the text doesn't begin with a space.
-fn next_word(text: &[u8]) -> Option<(&[u8], &[u8])>
+pub(crate) fn next_word(text: &[u8]) -> Option<(&[u8], &[u8])>
     ensures some { IfSome result (λ found. (text.now ≡ 32 ∷ (found.0.now ++ found.1.now)) × IsWord found.0.now × IsWordEnd found.1.now) }
     ensures none { IfNone result ((rest : List ℕ) → text.now ≢ 32 ∷ rest) }
 {

@@ -6,7 +6,7 @@ ghost use Rattle.hm_schedule.specs.Names.{kind_text};
 ghost use Rattle.hm_schedule.specs.Schedules.{IsLawfulGroup};
 
 use crate::fields::kind_of;
-use crate::reads::has_size;
+use crate::reason::has_size;
 use hm_base::node::GroupKind;
 use hm_base::spelling::read_number;
 

@@ -22,6 +22,23 @@ pub enum Keyword {
     Start,
 }
 
+impl Keyword {
+    ghost use Rattle.hm_schedule.specs.Stages.{keyword_place};
+
+    /// The place of its lines among the opening lines, or that behind them all.
+    pub(crate) fn place(self) -> u8
+        ensures { result ≡ keyword_place self }
+    {
+        match self {
+            Keyword::Group => 0,
+            Keyword::Table => 1,
+            Keyword::Life => 2,
+            Keyword::Log => 3,
+            _ => 4,
+        }
+    }
+}
+
 /// The keyword that a word is. None exactly for any other word. Most lines of a schedule are the word that is compared first.
 pub(crate) fn keyword_of(word: &[u8]) -> Option<Keyword>
     ensures { result ≡ named word.now }

@@ -14,5 +14,7 @@ pub mod opening;
 pub mod reading;
 mod reads;
 pub mod round_trip;
+mod reason;
+pub mod refusal;
 pub mod stage;
 pub mod write_line;

@@ -1,10 +1,12 @@
-ghost use Rattle.std.specs.Prelude.{◌≡◌, ℕ, List, Some, Ok, IfOk, IfErr};
+ghost use Rattle.std.specs.Prelude.{◌≡◌, ◌↔◌, Some, Ok, Err, IfOk, IfSome};
+ghost use Rattle.hm_schedule.specs.FirstReasons.{Anywhere, IsFirstReason};
 ghost use Rattle.hm_schedule.specs.Schedules.{IsLawful, line_text};
 
 use crate::event::Event;
 use crate::fields::split_word;
 use crate::keyword::keyword_of;
 use crate::reads::read_fields;
+use crate::reason::first_reason;
 use hm_base::node::GroupKind;
 
 /// A line of a schedule: the group, the dirty table, how many packets a switch handles, how many entries a log may have, or an
@@ -41,18 +43,25 @@ pub enum LineReason {
     Value,
 }
 
-/// The line that bytes spell, without its end. A refusal says why they spell none.
+/// The line that bytes spell, without its end. A refusal says the first reason why they spell none; it's never `End`, `Long` or
+/// `Header`, which tell of a line among others.
 pub fn read_line(bytes: &[u8]) -> Result<Line, LineReason>
     ensures ok { IfOk result (λ line. IsLawful line × (bytes.now ≡ line_text line)) }
     ensures only { (line : Line) → IsLawful line → bytes.now ≡ line_text line → result ≡ Ok line }
-    ensures reason { IfErr result (λ reason. reason ≡ LineReason.Word) }
+    ensures reason { (reason : LineReason) → (result ≡ Err reason) ↔ IsFirstReason Anywhere bytes.now reason }
+{
+    match line_of(bytes) {
+        Some(line) => Ok(line),
+        None => Err(first_reason(bytes, None)),
+    }
+}
+
+/// The line that bytes spell. None exactly for any other bytes.
+pub(crate) fn line_of(bytes: &[u8]) -> Option<Line>
+    ensures some { IfSome result (λ line. IsLawful line × (bytes.now ≡ line_text line)) }
+    ensures only { (line : Line) → IsLawful line → bytes.now ≡ line_text line → result ≡ Some line }
 {
     let (word, fields) = split_word(bytes);
-    match keyword_of(word) {
-        Some(keyword) => match read_fields(keyword, fields) {
-            Some(line) => Ok(line),
-            None => Err(LineReason::Word),
-        },
-        None => Err(LineReason::Word),
-    }
+    let keyword = keyword_of(word)?;
+    read_fields(keyword, fields)
 }

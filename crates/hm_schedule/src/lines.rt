@@ -58,7 +58,7 @@ impl Model for LineReader {
 }
 
 impl LineReader {
-    ghost use Rattle.hm_schedule.specs.Lines.{max_line_len, FindsOrFails, Cuts, rest_of};
+    ghost use Rattle.hm_schedule.specs.Lines.{max_line_len, FindsOrFails, HasMoreOrFails, Cuts, rest_of};
     ghost use Rattle.hm_schedule.specs.Fills.{Fills};
 
     /// A reader that holds nothing yet.
@@ -97,6 +97,20 @@ impl LineReader {
                 Ok(_) => {}
                 Err(failed) => return Err(failed),
             }
+        }
+    }
+
+    /// Whether a byte is left. It asks the source only where none is ahead.
+    pub fn has_more<S: Source>(&mut self, source: &mut S) -> Result<bool, Failed>
+        ensures more { HasMoreOrFails result self.old.ahead self.new.ahead (S.left source.old) (S.left source.new) }
+        ensures counted { Counts (S.faults source.old) (S.faults source.new) result }
+    {
+        if self.start < self.end {
+            return Ok(true);
+        }
+        match self.fill(source) {
+            Ok(count) => Ok(count > 0),
+            Err(failed) => Err(failed),
         }
     }
 

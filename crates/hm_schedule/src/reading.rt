@@ -5,14 +5,17 @@ ghost use Rattle.hm_schedule.specs.Orders as orders;
 ghost use Rattle.hm_schedule.specs.Orders.{IsNext, line_bytes};
 ghost use Rattle.hm_schedule.specs.Schedules.{line_text};
 ghost use Rattle.hm_schedule.specs.Lines.{Moves};
+ghost use Rattle.hm_schedule.specs.Refusals.{IsFull};
 ghost use Rattle.hm_schedule.specs.Stages.{stage_at};
 ghost use Rattle.hm_schedule.specs.Nexts.{ComesOrFails, IsSpelledBy, EventComesOrFails, OpensOrFails};
 
 use crate::event::Event;
 use crate::limits::MAX_EVENTS;
-use crate::line::{Line, LineReason, read_line};
+use crate::line::{Line, LineReason, line_of};
 use crate::lines::{Found, LineReader};
 use crate::opening::Opening;
+use crate::reason::first_reason;
+use crate::refusal::Refusal;
 use crate::stage::Stage;
 use hm_outside::device::{Failed, Source};
 
@@ -21,7 +24,7 @@ use hm_outside::device::{Failed, Source};
 enum Next {
     Line(Line),
     End,
-    Bad(LineReason),
+    Refused(Refusal),
 }
 
 /// What comes next where an event may stand.
@@ -29,7 +32,7 @@ enum Next {
 pub enum NextEvent {
     Event(Event),
     End,
-    Bad(LineReason),
+    Refused(Refusal),
 }
 
 /// Reads the opening lines of a schedule, and what comes behind them.
@@ -47,7 +50,7 @@ pub fn read_opening<S: Source>(
             Ok(Next::Line(Line::Event(event))) => return Ok((opening, NextEvent::Event(event))),
             Ok(Next::Line(line)) => opening = opening.with(&line),
             Ok(Next::End) => return Ok((opening, NextEvent::End)),
-            Ok(Next::Bad(reason)) => return Ok((opening, NextEvent::Bad(reason))),
+            Ok(Next::Refused(refusal)) => return Ok((opening, NextEvent::Refused(refusal))),
             Err(failed) => return Err(failed),
         }
     }
@@ -81,9 +84,9 @@ fn any_event<S: Source>(
 {
     match next_line(reader, source, Stage::Running(events)) {
         Ok(Next::Line(Line::Event(event))) => Ok(NextEvent::Event(event)),
-        Ok(Next::Line(_)) => Ok(NextEvent::Bad(LineReason::Word)),
+        Ok(Next::Line(_)) => Ok(NextEvent::Refused(Refusal::Bad(LineReason::Header))),
         Ok(Next::End) => Ok(NextEvent::End),
-        Ok(Next::Bad(reason)) => Ok(NextEvent::Bad(reason)),
+        Ok(Next::Refused(refusal)) => Ok(NextEvent::Refused(refusal)),
         Err(failed) => Err(failed),
     }
 }
@@ -95,47 +98,50 @@ fn next_line<S: Source>(
     stage: Stage,
 ) -> Result<Next, Failed>
     ensures next { ComesOrFails result (stage_at stage) reader.old.ahead reader.new.ahead (S.left source.old) (S.left source.new) }
-    // A line that stands there and may come comes.
-    ensures only { (line : Line) → (bytes more : List ℕ) → IsNext (stage_at stage) line → S.left source.old ≡ Some bytes
-        → reader.old.ahead ++ bytes ≡ line_bytes line ++ more → IfOk result (λ next. next ≡ Next.Line line) }
-    // The end comes where nothing is left behind a line.
-    ensures end { (bytes : List ℕ) → stage_at stage ≢ orders.Stage.Fresh → S.left source.old ≡ Some bytes → reader.old.ahead ++ bytes ≡ []
-        → IfOk result (λ next. next ≡ Next.End) }
     ensures counted { Counts (S.faults source.old) (S.faults source.new) result }
 {
+    if stage.is_full() {
+        return behind_the_last(reader, source);
+    }
     match reader.next(source) {
         Ok(Found::Line) => Ok(spelled_by(reader.line(), stage)),
         Ok(Found::End) => Ok(ending(stage)),
-        Ok(Found::Unfinished) => Ok(Next::Bad(LineReason::Word)),
-        Ok(Found::Long) => Ok(Next::Bad(LineReason::Word)),
+        Ok(Found::Unfinished) => Ok(Next::Refused(Refusal::Bad(LineReason::End))),
+        Ok(Found::Long) => Ok(Next::Refused(Refusal::TooLong)),
         Err(failed) => Err(failed),
     }
 }
 
 /// What the bytes of a line are, without its end.
 fn spelled_by(bytes: &[u8], stage: Stage) -> Next
-    ensures spelled { IsSpelledBy (stage_at stage) result bytes.now }
-    ensures only { (line : Line) → IsNext (stage_at stage) line → bytes.now ≡ line_text line → result ≡ Next.Line line }
+    requires { IsFull (stage_at stage) → ⊥ }
+    ensures { IsSpelledBy (stage_at stage) result bytes.now }
 {
-    match read_line(bytes) {
-        Ok(line) => {
-            if stage.allows(&line) {
-                Next::Line(line)
-            } else {
-                Next::Bad(LineReason::Word)
-            }
-        }
-        Err(reason) => Next::Bad(reason),
+    match line_of(bytes) {
+        Some(line) if stage.allows(&line) => Next::Line(line),
+        _ => Next::Refused(Refusal::Bad(first_reason(bytes, Some(stage)))),
+    }
+}
+
+/// Reads what comes behind as many events as a schedule may have: any byte is one too many.
+fn behind_the_last<S: Source>(reader: &mut LineReader, source: &mut S) -> Result<Next, Failed>
+    ensures next { (stage : orders.Stage) → IsFull stage → ComesOrFails result stage reader.old.ahead reader.new.ahead (S.left source.old) (S.left source.new) }
+    ensures counted { Counts (S.faults source.old) (S.faults source.new) result }
+{
+    match reader.has_more(source) {
+        Ok(true) => Ok(Next::Refused(Refusal::TooLong)),
+        Ok(false) => Ok(Next::End),
+        Err(failed) => Err(failed),
     }
 }
 
 /// What the end of the input is.
 fn ending(stage: Stage) -> Next
     ensures end { stage_at stage ≢ orders.Stage.Fresh → result ≡ Next.End }
-    ensures bad { stage_at stage ≡ orders.Stage.Fresh → result ≡ Next.Bad LineReason.Word }
+    ensures bad { stage_at stage ≡ orders.Stage.Fresh → result ≡ Next.Refused (Refusal.Bad LineReason.Header) }
 {
     match stage {
-        Stage::Fresh => Next::Bad(LineReason::Word),
+        Stage::Fresh => Next::Refused(Refusal::Bad(LineReason::Header)),
         Stage::Setting(_) => Next::End,
         Stage::Running(_) => Next::End,
     }

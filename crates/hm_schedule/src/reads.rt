@@ -13,7 +13,7 @@ use crate::event::Event;
 use crate::fields::{next_kind, next_number, next_small, next_value};
 use crate::keyword::Keyword;
 use crate::line::Line;
-use hm_base::node::GroupKind;
+use crate::reason::has_size;
 use hm_dirtyset::dirty_set::{MAX_BITS, MAX_STAGES};
 use hm_store::ledger::MAX_LOG_LEN;
 use hm_switch::switch::MAX_LIFE;
@@ -54,16 +54,6 @@ fn read_group(fields: &[u8]) -> Option<Line>
         return None;
     }
     Some(Line::Group { kind, size })
-}
-
-/// Whether groups of this protocol may have this size.
-pub(crate) fn has_size(kind: GroupKind, size: u8) -> bool
-    ensures { IsTrue result ↔ IsLawfulGroup kind size }
-{
-    match kind {
-        GroupKind::Chain | GroupKind::Primary => size >= 1 && size <= 7,
-        GroupKind::Vr => size % 2 == 1 && size <= 7,
-    }
 }
 
 /// The dirty table.

@@ -1,9 +1,11 @@
 ghost use Rattle.std.specs.Prelude.{◌≡◌, ◌↔◌, IsTrue};
 ghost use Rattle.hm_schedule.specs.Orders as orders;
 ghost use Rattle.hm_schedule.specs.Setups.{setup_of};
-ghost use Rattle.hm_schedule.specs.Stages.{stage_at};
+ghost use Rattle.hm_schedule.specs.Refusals.{IsFull};
+ghost use Rattle.hm_schedule.specs.Stages.{StandsAt, stage_at};
 
 use crate::event::Setup;
+use crate::keyword::Keyword;
 use crate::limits::MAX_EVENTS;
 use crate::line::Line;
 use hm_base::node::GroupKind;
@@ -28,6 +30,29 @@ impl Stage {
             Stage::Fresh => matches!(line, Line::Group { .. }),
             Stage::Setting(place) => place < place_of(line),
             Stage::Running(events) => matches!(line, Line::Event(_)) && events < MAX_EVENTS,
+        }
+    }
+}
+
+impl Stage {
+    /// Whether lines with this keyword may stand next.
+    pub(crate) fn admits(self, keyword: Keyword) -> bool
+        ensures { IsTrue result ↔ StandsAt (stage_at self) keyword }
+    {
+        match self {
+            Stage::Fresh => keyword.place() == 0,
+            Stage::Setting(place) => place < keyword.place(),
+            Stage::Running(_) => keyword.place() == 4,
+        }
+    }
+
+    /// Whether a schedule has as many events as it may have.
+    pub(crate) fn is_full(self) -> bool
+        ensures { IsTrue result ↔ IsFull (stage_at self) }
+    {
+        match self {
+            Stage::Fresh | Stage::Setting(_) => false,
+            Stage::Running(events) => events >= MAX_EVENTS,
         }
     }
 }

@@ -67,15 +67,54 @@ fn reads_lines_of_packets_and_replicas(rt: HostRuntime) {
 }
 
 #[test]
-fn refuses_other_bytes(rt: HostRuntime) {
-    let none = Err(LineReason::Word);
-    assert_eq!(rt; read_line(b"group chain 8"), none);
-    assert_eq!(rt; read_line(b"group primary 0"), none);
-    assert_eq!(rt; read_line(b"group vr 4"), none);
-    assert_eq!(rt; read_line(b"table 0 3"), none);
-    assert_eq!(rt; read_line(b"read 8 5 0"), none);
-    assert_eq!(rt; read_line(b"deliver 4294967296"), none);
-    assert_eq!(rt; read_line(b"tick 7"), none);
-    assert_eq!(rt; read_line(b"timeout 7"), none);
-    assert_eq!(rt; read_line(b"next "), none);
+fn names_a_byte_or_a_word(rt: HostRuntime) {
+    let byte = Err(LineReason::Byte);
+    let word = Err(LineReason::Word);
+    assert_eq!(rt; read_line(b"next\r"), byte);
+    assert_eq!(rt; read_line(b"\x7f"), byte);
+    // An unknown word, but before it a byte that is no character.
+    assert_eq!(rt; read_line(b"foo \x1f"), byte);
+    assert_eq!(rt; read_line(b"foo"), word);
+    assert_eq!(rt; read_line(b""), word);
+    assert_eq!(rt; read_line(b" next"), word);
+    assert_eq!(rt; read_line(b"raw 00"), word);
+    // No keyword, and no number.
+    assert_eq!(rt; read_line(b"ticks x"), word);
+}
+
+#[test]
+fn names_a_count_of_words(rt: HostRuntime) {
+    let count = Err(LineReason::Count);
+    assert_eq!(rt; read_line(b"next "), count);
+    assert_eq!(rt; read_line(b"read 8 5"), count);
+    assert_eq!(rt; read_line(b"deliver  1"), count);
+    // A word is missing, and the one that is there is no protocol.
+    assert_eq!(rt; read_line(b"group foo"), count);
+}
+
+#[test]
+fn names_the_first_field_at_fault(rt: HostRuntime) {
+    let number = Err(LineReason::Number);
+    let range = Err(LineReason::Range);
+    let value = Err(LineReason::Value);
+    assert_eq!(rt; read_line(b"deliver 4294967296"), number);
+    assert_eq!(rt; read_line(b"deliver 01"), number);
+    assert_eq!(rt; read_line(b"tick 256"), number);
+    assert_eq!(rt; read_line(b"group vr "), number);
+    // A number is none, and behind it another is out of its range.
+    assert_eq!(rt; read_line(b"read x 5 0"), number);
+    assert_eq!(rt; read_line(b"group foo 1"), range);
+    assert_eq!(rt; read_line(b"group chain 8"), range);
+    assert_eq!(rt; read_line(b"group primary 0"), range);
+    assert_eq!(rt; read_line(b"group vr 4"), range);
+    assert_eq!(rt; read_line(b"table 0 3"), range);
+    assert_eq!(rt; read_line(b"table 1 13"), range);
+    assert_eq!(rt; read_line(b"life 4194305"), range);
+    assert_eq!(rt; read_line(b"log 0"), range);
+    assert_eq!(rt; read_line(b"timeout 7"), range);
+    // Out of its range, and no number behind it.
+    assert_eq!(rt; read_line(b"table 5 x"), range);
+    assert_eq!(rt; read_line(b"write 7 5 6 1"), value);
+    // No value, and a switch that is out of its range.
+    assert_eq!(rt; read_line(b"write 7 5 6A 0"), value);
 }

@@ -3,7 +3,7 @@ use Rattle.hm_schedule.specs.Limits.{max_events}
 use Rattle.hm_schedule.specs.Orders.{Stage}
 use Rattle.hm_outside.specs.Faults.{one_more}
 use Rattle.hm_schedule.specs.Nexts.{EventComes}
-use Rattle.hm_replay.proofs.Progress.{few_more, progress_more, ahead_start, ahead_more, ends_badly_ahead, ends_whole, ends_cut_ahead, ends_cut_opening, ends_empty, ends_ahead, ends_opening, ends_event}
+use Rattle.hm_replay.proofs.Progress.{few_more, progress_more, ahead_start, ahead_more, ends_refused_ahead, ends_whole, ends_cut_ahead, ends_cut_opening, ends_empty, ends_ahead, ends_opening, ends_event}
 use Rattle.hm_replay.proofs.replay.replay.Goals as goal
 
 pub returns-in_default : goal.returns-in_default
@@ -49,13 +49,14 @@ returns-in-End g c =
     let run = rw c.in-End.is at c.loop-next.invariant.run in
     rw c.ended.ensures (ends_whole c.calls_add_up.ensures c.schedules_run_lawfully.ensures c.schedules_grow_by_lines.ensures.grow _ _ _ _ _ _ _ _ _ _ _ run c.loop-next.invariant.read c.loop-next.invariant.put c.finish.ensures)
 
-pub returns-in-Bad : goal.returns-in-Bad
-returns-in-Bad g c =
-    let run = rw c.in-Bad.is at c.loop-next.invariant.run in
+pub returns-in-Refused : goal.returns-in-Refused
+returns-in-Refused g c =
+    let run = rw c.in-Refused.is at c.loop-next.invariant.run in
     let events : c.events.result ≡ c.loop-next.world.events = c.events.ensures in
-    rw c.ended-in-Bad.ensures
-    (ends_badly_ahead c.calls_add_up.ensures c.schedules_run_lawfully.ensures c.schedules_grow_by_lines.ensures.grow _ _ c.in-Ok-read_opening.opened.0.lines _ _ _ _ _ _ _ _ _ _ run c.loop-next.invariant.read c.loop-next.invariant.put (omega arith)
-    c.refuse-closed.ensures)
+    rw c.ended-in-Refused.ensures
+    (rw c.refused.ensures
+    (ends_refused_ahead c.calls_add_up.ensures c.schedules_run_lawfully.ensures c.schedules_grow_by_lines.ensures.grow _ _ c.in-Ok-read_opening.opened.0.lines _ _ _ _ _ _ _ _ _ _ run c.loop-next.invariant.read c.loop-next.invariant.put (omega arith)
+    c.refuse-closed.ensures))
 
 pub returns-in-Err-next_event : goal.returns-in-Err-next_event
 returns-in-Err-next_event g c =
