@@ -1,11 +1,15 @@
 //! `hm replay` reads a schedule from standard input, and writes the text of its run to standard output. `hm show` reads frames, and
-//! writes each packet's text.
+//! writes each packet's text. `hm schedule` writes the schedule that is made of a number, and `hm generate` a summary of its run. Where
+//! not all went well, a line on standard error says what happened.
 #![tactic(auto)]
+
+mod message;
 
 ghost use Rattle.std.specs.Prelude.{◌≡◌, ◌≢◌, ◌⊎◌, []};
 ghost use Rattle.std.specs.Io.Buffered.{writer_buffer};
 ghost use Rattle.std.specs.IoError.{error_kind};
 
+use crate::message::Message;
 use hm_outside::adapters::{ReaderSource, WriterSink};
 use hm_replay::replay::run;
 use hm_replay::status::Status;
@@ -55,6 +59,15 @@ fn status(rt: &HostRuntime) -> Status {
     flushed(&mut sink.into_inner(), status)
 }
 
+/// Says on standard error how the program ended, where not all went well. A standard error that fails changes nothing.
+fn report(rt: &HostRuntime, status: Status) {
+    if let Some(message) = Message::on(status) {
+        let _told = eprintln!(rt; "{message}");
+    }
+}
+
 fn main(rt: HostRuntime) -> ExitCode {
-    ExitCode::from(status(&rt).code())
+    let status = status(&rt);
+    report(&rt, status);
+    ExitCode::from(status.code())
 }

@@ -1,3 +1,6 @@
 mod PacketLines
 mod Progress
 mod Complete
+mod Items
+mod Putting
+mod Summing

@@ -9,17 +9,22 @@ ghost use Rattle.hm_rules.specs.RunText.{order_text};
 ghost use Rattle.hm_replay.specs.Statuses.{Ends, EndsShow, refused};
 ghost use Rattle.hm_outside.specs.Faults.{Rose};
 ghost use Rattle.hm_outside.specs.Puts.{Puts};
+ghost use Rattle.hm_replay.specs.Commands.{IsMade, IsCommand, command_words, made_lines};
 ghost use Rattle.hm_replay.specs.Replays.{IsWholeRun, IsRefusedRun, refusal_text};
+ghost use Rattle.hm_replay.specs.Summaries.{summary_of};
+ghost use Rattle.hm_replay.specs.Written.{EndsWriting};
+ghost use Rattle.hm_replay.specs.declared.words.Made.{Made};
 ghost use Rattle.hm_schedule.specs.Orders.{IsBegun, IsSchedule, IsOutside, lines_text, stage_of};
 ghost use Rattle.hm_schedule.specs.Refusals.{BreaksOff, IsRefused};
 ghost use Rattle.hm_schedule.specs.declared.line.Line.{Line};
 ghost use Rattle.hm_schedule.specs.declared.line.LineReason.{LineReason};
 
+use crate::commands::{put_schedule, put_summary};
 use crate::events::write_event;
 use crate::law::schedules_run_lawfully;
 use crate::run_text::{write_order, write_refusal};
 use crate::status::{Status, ended, refused, status_of};
-use crate::words::is_word;
+use crate::words::{Command, read_command};
 use hm_base::buffer::Text;
 use hm_outside::device::{NotPut, Sink, Source, put_all, put_closing};
 use hm_outside::law::calls_add_up;
@@ -32,8 +37,9 @@ use hm_world::world::World;
 use std::alloc::Global;
 
 /// Does what a program's words, without its name, say. `replay` reads a schedule from the source, runs it, and writes the text
-/// of its run to the sink, each event's text and the ending as one piece. `show` reads frames and writes each packet's text. No
-/// other words are a command, and then nothing is read or put.
+/// of its run to the sink, each event's text and the ending as one piece. `show` reads frames and writes each packet's text.
+/// `schedule N KIND SIZE` writes the schedule that is made of the number N, and `generate N KIND SIZE` runs it and writes a summary:
+/// both read nothing. No other words are a command, and then nothing is read or put.
 ///
 /// The clauses on what was read and put hold where source and sink tell their bytes.
 pub fn run<S: Source, K: Sink>(
@@ -43,8 +49,8 @@ pub fn run<S: Source, K: Sink>(
     sink: &mut K,
 ) -> Status
     // BadWords comes exactly where the words are no command.
-    ensures command { result ≢ Status.BadWords → (map string_bytes words.now ≡ codes "replay" ∷ []) ⊎ (map string_bytes words.now ≡ codes "show" ∷ []) }
-    ensures no_command { (map string_bytes words.now ≡ codes "replay" ∷ []) ⊎ (map string_bytes words.now ≡ codes "show" ∷ []) → result ≢ Status.BadWords }
+    ensures command { result ≢ Status.BadWords → (c : Command) × IsCommand c × (map string_bytes words.now ≡ command_words c) }
+    ensures no_command { (c : Command) → IsCommand c → map string_bytes words.now ≡ command_words c → result ≢ Status.BadWords }
     ensures untouched { result ≡ Status.BadWords → (source.new ≡ source.old) × (sink.new ≡ sink.old) }
 
     // A fault comes only where the device's count rose in this call.
@@ -94,14 +100,28 @@ pub fn run<S: Source, K: Sink>(
         → AllByRecursion HasSpelling packets → length packets ≤ max_frames
         → (Rose (S.faults source.old) (S.faults source.new) → ⊥) → (Rose (K.faults sink.old) (K.faults sink.new) → ⊥)
         → (result ≡ Status.Done) ⊎ (result ≡ Status.NoMemory) }
+
+    // What is made of a number: every status that comes, and what was put then. The source stays as it is.
+    ensures schedule { (made : Made) → IsMade made → map string_bytes words.now ≡ command_words (Command.Schedule made)
+        → EndsWriting result (lines_text (made_lines made)) (K.held sink.old) (K.held sink.new) (K.faults sink.old) (K.faults sink.new) }
+    ensures generate { (made : Made) → IsMade made → map string_bytes words.now ≡ command_words (Command.Generate made)
+        → EndsWriting result (summary_of (made_lines made)) (K.held sink.old) (K.held sink.new) (K.faults sink.old) (K.faults sink.new) }
+    ensures unread { (made : Made) → IsMade made
+        → (map string_bytes words.now ≡ command_words (Command.Schedule made)) ⊎ (map string_bytes words.now ≡ command_words (Command.Generate made))
+        → source.new ≡ source.old }
+    // Over a sink whose count doesn't rise all of it is put, or memory is wanting.
+    ensures made_complete { (made : Made) → IsMade made
+        → (map string_bytes words.now ≡ command_words (Command.Schedule made)) ⊎ (map string_bytes words.now ≡ command_words (Command.Generate made))
+        → (Rose (K.faults sink.old) (K.faults sink.new) → ⊥)
+        → (result ≡ Status.Done) ⊎ (result ≡ Status.NoMemory) }
 {
     bytes_break_off_once();
-    if is_word(words, "replay") {
-        replay(alloc, source, sink)
-    } else if is_word(words, "show") {
-        status_of(show(alloc, source, sink))
-    } else {
-        Status::BadWords
+    match read_command(words) {
+        Some(Command::Replay) => replay(alloc, source, sink),
+        Some(Command::Show) => status_of(show(alloc, source, sink)),
+        Some(Command::Schedule(made)) => put_schedule(alloc, made, sink),
+        Some(Command::Generate(made)) => put_summary(alloc, made, sink),
+        None => Status::BadWords,
     }
 }
 

@@ -8,6 +8,8 @@ mod chain;
 #[cfg(test)]
 mod codec;
 #[cfg(test)]
+mod commands;
+#[cfg(test)]
 mod dirtyset;
 #[cfg(test)]
 mod feed;

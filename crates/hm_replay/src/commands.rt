@@ -1,0 +1,112 @@
+//! Commands that read nothing: a schedule is made of a number.
+
+ghost use Rattle.std.specs.Prelude.{◌≡◌, List, drop, map, slice_get, IfOk};
+ghost use Rattle.hm_schedule.specs.declared.event.Event.{Event};
+ghost use Rattle.hm_schedule.specs.declared.line.Line.TheVariants as line;
+ghost use Rattle.hm_replay.specs.Commands.{IsMade, made_lines};
+ghost use Rattle.hm_replay.specs.Summaries.{summary_of};
+ghost use Rattle.hm_replay.specs.Written.{EndsWriting};
+ghost use Rattle.hm_schedule.specs.Orders.{lines_text};
+
+use crate::status::Status;
+use crate::summary::{Counts, write_end, write_outcomes};
+use crate::words::Made;
+use hm_base::buffer::Text;
+use hm_base::memory::NoMemory;
+use hm_outside::device::{Sink, put_all};
+use hm_outside::law::calls_add_up;
+use hm_refusal_laws::outcomes::outcomes_are_the_slotted_runs;
+use hm_refusal_laws::refusals::{full_events_are_the_refusals, slotted_run_goes_on};
+use hm_schedule::event::Event;
+use hm_schedule::generator::{Generator, generated_is_a_schedule};
+use hm_schedule::line::Line;
+use hm_schedule::stage::default_setup;
+use hm_schedule::write_line::write_line;
+use hm_world::world::World;
+use std::alloc::Global;
+
+/// A piece of a schedule is put once it has so many bytes.
+const PIECE: usize = 65_536;
+
+/// Puts the schedule that is made, in pieces.
+pub(crate) fn put_schedule<K: Sink>(alloc: Global, made: Made, sink: &mut K) -> Status
+    requires { IsMade made }
+    ensures { EndsWriting result (lines_text (made_lines made)) (K.held sink.old) (K.held sink.new) (K.faults sink.old) (K.faults sink.new) }
+{
+    calls_add_up();
+    let mut generator = Generator::open(made.number, made.kind, made.size);
+    let mut text = Text::new(alloc);
+    while let Some(line) = generator.next_line() {
+        match write_line(&line, &mut text) {
+            Ok(()) => {}
+            Err(_) => return Status::NoMemory,
+        }
+        if text.len() >= PIECE {
+            match put_all(sink, text.as_slice()) {
+                Ok(()) => text.clear(),
+                Err(_) => return Status::WriteFault,
+            }
+        }
+    }
+    match put_all(sink, text.as_slice()) {
+        Ok(()) => Status::Done,
+        Err(_) => Status::WriteFault,
+    }
+}
+
+/// Runs the schedule that is made, and puts a summary of the run.
+pub(crate) fn put_summary<K: Sink>(alloc: Global, made: Made, sink: &mut K) -> Status
+    requires { IsMade made }
+    ensures { EndsWriting result (summary_of (made_lines made)) (K.held sink.old) (K.held sink.new) (K.faults sink.old) (K.faults sink.new) }
+{
+    calls_add_up();
+    let Ok(text) = summary(alloc, made) else {
+        return Status::NoMemory;
+    };
+    match put_all(sink, text.as_slice()) {
+        Ok(()) => Status::Done,
+        Err(_) => Status::WriteFault,
+    }
+}
+
+/// The summary of the run of the schedule that is made.
+fn summary(alloc: Global, made: Made) -> Result<Text, NoMemory>
+    requires { IsMade made }
+    ensures { IfOk result (λ text. text.items ≡ summary_of (made_lines made)) }
+{
+    generated_is_a_schedule();
+    full_events_are_the_refusals();
+    outcomes_are_the_slotted_runs();
+    slotted_run_goes_on();
+    let Ok(mut world) = World::open(alloc, &default_setup(made.kind, made.size)) else {
+        return Err(NoMemory);
+    };
+    let mut generator = Generator::open(made.number, made.kind, made.size);
+    let _group = generator.next_line();
+    let mut counts = Counts::none();
+    while let Some(event) = next_event(&mut generator) {
+        counts.add(world.event(&event)?);
+    }
+    let ordered = world.history().order(alloc)?.len();
+    let mut text = Text::new(alloc);
+    write_outcomes(world.events(), &counts, &mut text)?;
+    write_end(
+        world.sent_count(),
+        world.history().marks(),
+        ordered,
+        &mut text,
+    )?;
+    Ok(text)
+}
+
+/// The next event of a made schedule whose group was taken. None exactly where none is left.
+fn next_event(generator: &mut Generator) -> Option<Event>
+    requires { (events : List Event) × (generator.old ≡ map line.Event events) }
+    ensures event { (events : List Event) → generator.old ≡ map line.Event events → result ≡ slice_get events 0 }
+    ensures rest { (events : List Event) → generator.old ≡ map line.Event events → generator.new ≡ map line.Event (drop 1 events) }
+{
+    match generator.next_line()? {
+        Line::Event(event) => Some(event),
+        Line::Group { .. } | Line::Table { .. } | Line::Life(_) | Line::Log(_) => None,
+    }
+}

@@ -1,0 +1,248 @@
+//! Schedules that are made of a number, as the program's commands write and run them.
+
+use hm_base::buffer::Text;
+use hm_base::node::GroupKind;
+use hm_base::value::Value;
+use hm_outside::memory::{MemorySink, MemorySource};
+use hm_replay::replay::run;
+use hm_replay::status::Status;
+use hm_replay::words::{Command, Made, read_command};
+use hm_schedule::event::Event;
+use hm_schedule::group_words::read_group_words;
+use hm_schedule::line::{Line, LineReason};
+use hm_schedule::round_trip::{read_back, write_back};
+use hm_schedule::write_line::write_line;
+use std::alloc::{AllocError, Global};
+use std::process::Abort;
+use std::test::Fail;
+
+/// Room for every text here.
+const ROOM: usize = 1_048_576;
+
+/// The first ten lines of `schedule 42 vr 7`.
+const FIRST_LINES: &[u8] = b"group vr 7
+next
+next
+next
+next
+next
+drop
+next
+next
+write 3 11 0009 1
+";
+
+/// The summaries of the number 42 for a chain of three, a primary with four backups, and seven replicas of Viewstamped Replication.
+const CHAIN: &[u8] = b"events 16384
+ok 7002
+ignored 279
+full 0
+spent 0
+logfull 0
+barred 9103
+packets 5852
+invoked 961
+committed 449
+replied 958
+ordered 958
+end
+";
+
+const PRIMARY: &[u8] = b"events 16384
+ok 8619
+ignored 423
+full 0
+spent 0
+logfull 0
+barred 7342
+packets 7635
+invoked 904
+committed 430
+replied 901
+ordered 901
+end
+";
+
+const VR: &[u8] = b"events 16384
+ok 10618
+ignored 1208
+full 0
+spent 0
+logfull 0
+barred 4558
+packets 10566
+invoked 673
+committed 318
+replied 668
+ordered 671
+end
+";
+
+/// A text's words, as those of a program.
+fn words(alloc: Global, text: &str) -> Result<Vec<String>, AllocError> {
+    let mut words = Vec::new(alloc);
+    for word in text.split(' ') {
+        words.push(String::from_str(alloc, word)?)?;
+    }
+    Ok(words)
+}
+
+/// What these words put, over an input and a sink of which the calls with these numbers fail.
+fn put(
+    rt: &impl Abort,
+    alloc: Global,
+    text: &str,
+    input: &[u8],
+    fails: &[u64],
+    status: Status,
+) -> Result<MemorySink, Fail> {
+    let words = words(alloc, text)?;
+    let mut source = MemorySource::new(input.to_vec(alloc)?, Vec::new(alloc));
+    let mut sink = MemorySink::open(alloc, ROOM, fails.to_vec(alloc)?)?;
+    assert_eq!(rt; run(alloc, &words, &mut source, &mut sink), status);
+    Ok(sink)
+}
+
+#[test]
+fn writes_lines(rt: HostRuntime) -> Result<(), Fail> {
+    let mut text = Text::new(rt.alloc());
+    let write = Event::Write {
+        client: 7,
+        object: 5,
+        value: Value::from_slice(b"").ok_or("a value")?,
+        switch: 1,
+    };
+    let resend = Event::Resend {
+        client: 7,
+        switch: 2,
+    };
+    for line in [
+        Line::Table { stages: 4, bits: 0 },
+        Line::Life(4_194_304),
+        Line::Log(1),
+        Line::Event(write),
+        Line::Event(resend),
+        Line::Event(Event::Next),
+        Line::Event(Event::Timeout { replica: 6 }),
+    ] {
+        write_line(&line, &mut text)?;
+    }
+    assert_eq!(rt;
+        text.as_slice(),
+        b"table 4 0
+life 4194304
+log 1
+write 7 5 empty 1
+resend 7 2
+next
+timeout 6
+"
+            .as_slice()
+    );
+    let group = Line::Group {
+        kind: GroupKind::Primary,
+        size: 7,
+    };
+    assert_eq!(rt; read_back(&group, &mut text)?, Ok(group));
+    assert_eq!(rt; text.as_slice(), b"group primary 7\n".as_slice());
+    assert_eq!(rt; write_back(b"read 8 5 2", &mut text)?, Ok(()));
+    assert_eq!(rt; text.as_slice(), b"read 8 5 2\n".as_slice());
+    assert_eq!(rt;
+        write_back(b"rear 8 5 2", &mut text)?,
+        Err(LineReason::Word)
+    );
+    Ok(())
+}
+
+#[test]
+fn reads_words(rt: HostRuntime) -> Result<(), Fail> {
+    assert_eq!(rt; read_group_words(b"vr", b"5"), Some((GroupKind::Vr, 5)));
+    assert_eq!(rt; read_group_words(b"vr", b"6"), None);
+    assert_eq!(rt; read_group_words(b"chain", b"8"), None);
+    let made = Made {
+        number: 18_446_744_073_709_551_615,
+        kind: GroupKind::Chain,
+        size: 1,
+    };
+    let alloc = rt.alloc();
+    let generate = words(alloc, "generate 18446744073709551615 chain 1")?;
+    assert_eq!(rt; read_command(&generate), Some(Command::Generate(made)));
+    for text in [
+        "generate 18446744073709551616 chain 1",
+        "generate -1 chain 1",
+        "schedule 01 chain 1",
+        "schedule 1 chains 1",
+        "schedule 1 chain",
+        "--help",
+    ] {
+        assert_eq!(rt; read_command(&words(alloc, text)?), None);
+    }
+    Ok(())
+}
+
+#[test]
+fn writes_a_made_schedule(rt: HostRuntime) -> Result<(), Fail> {
+    let alloc = rt.alloc();
+    let text = put(&rt, alloc, "schedule 42 vr 7", b"", &[], Status::Done)?;
+    assert!(rt; text.as_slice().starts_with(FIRST_LINES));
+    let cut = put(
+        &rt,
+        alloc,
+        "schedule 42 vr 7",
+        b"",
+        &[2],
+        Status::WriteFault,
+    )?;
+    assert!(rt; cut.as_slice().starts_with(FIRST_LINES));
+    assert!(rt; text.as_slice().starts_with(cut.as_slice()));
+    assert!(rt; cut.as_slice().len() < text.as_slice().len());
+    Ok(())
+}
+
+#[test]
+fn sums_made_schedules_up(rt: HostRuntime) -> Result<(), Fail> {
+    let alloc = rt.alloc();
+    let chain = put(&rt, alloc, "generate 42 chain 3", b"", &[], Status::Done)?;
+    assert_eq!(rt; chain.as_slice(), CHAIN);
+    let primary = put(&rt, alloc, "generate 42 primary 5", b"", &[], Status::Done)?;
+    assert_eq!(rt; primary.as_slice(), PRIMARY);
+    let viewed = put(&rt, alloc, "generate 42 vr 7", b"", &[], Status::Done)?;
+    assert_eq!(rt; viewed.as_slice(), VR);
+    let none = put(
+        &rt,
+        alloc,
+        "generate 42 vr 7",
+        b"",
+        &[1],
+        Status::WriteFault,
+    )?;
+    assert_eq!(rt; none.as_slice(), b"".as_slice());
+    Ok(())
+}
+
+/// How many lines of a text begin and end so.
+fn lines_like(text: &[u8], begin: &[u8], end: &[u8]) -> usize {
+    text.split(|byte| *byte == b'\n')
+        .filter(|line| line.starts_with(begin) && line.ends_with(end))
+        .count()
+}
+
+#[test]
+fn replays_a_made_schedule_to_its_summary(rt: HostRuntime) -> Result<(), Fail> {
+    let alloc = rt.alloc();
+    let schedule = put(&rt, alloc, "schedule 42 primary 5", b"", &[], Status::Done)?;
+    let replayed = put(&rt, alloc, "replay", schedule.as_slice(), &[], Status::Done)?;
+    let text = replayed.as_slice();
+    for (begin, end, count) in [
+        (b"event ".as_slice(), b"".as_slice(), 16_384),
+        (b"event ".as_slice(), b" ok".as_slice(), 8619),
+        (b"packet ".as_slice(), b"".as_slice(), 7635),
+        (b"invoke ".as_slice(), b"".as_slice(), 904),
+        (b"commit ".as_slice(), b"".as_slice(), 430),
+        (b"reply ".as_slice(), b"".as_slice(), 901),
+        (b"place ".as_slice(), b"".as_slice(), 901),
+    ] {
+        assert_eq!(rt; lines_like(text, begin, end), count);
+    }
+    Ok(())
+}
