@@ -34,6 +34,8 @@ mod schedule;
 #[cfg(test)]
 mod sent;
 #[cfg(test)]
+mod shared;
+#[cfg(test)]
 mod shim;
 #[cfg(test)]
 mod show;
