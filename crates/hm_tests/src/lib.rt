@@ -48,4 +48,6 @@ mod vr;
 #[cfg(test)]
 mod vr_rows;
 #[cfg(test)]
+mod worker;
+#[cfg(test)]
 mod world;

@@ -39,7 +39,7 @@ fn packet(src: Node, body: Body<'static>) -> Packet<'static>
     }
 }
 
-fn write() -> Result<Packet<'static>, Fail> {
+pub(crate) fn write() -> Result<Packet<'static>, Fail> {
     let value = Value::from_slice(b"a").ok_or("value")?;
     Ok(packet(
         Node::Client(7),
@@ -51,7 +51,7 @@ fn write() -> Result<Packet<'static>, Fail> {
     ))
 }
 
-fn done() -> Packet<'static> {
+pub(crate) fn done() -> Packet<'static> {
     packet(
         Node::Replica(0),
         Body::Done(Done {
@@ -62,7 +62,7 @@ fn done() -> Packet<'static> {
     )
 }
 
-fn read() -> Packet<'static> {
+pub(crate) fn read() -> Packet<'static> {
     packet(
         Node::Client(8),
         Body::Read(Read {
@@ -76,7 +76,7 @@ fn ack() -> Packet<'static> {
     packet(Node::Replica(0), Body::FeedAck(FeedAck { view: 0, len: 1 }))
 }
 
-fn book(alloc: Global, life: u32) -> Result<Book, Fail> {
+pub(crate) fn book(alloc: Global, life: u32) -> Result<Book, Fail> {
     Ok(Book::open(alloc, 1, 3, 10, life, &route()).map_err(|_| "memory")?)
 }
 
@@ -89,7 +89,7 @@ fn three_turns(alloc: Global, life: u32) -> Result<Book, Fail> {
     Ok(book)
 }
 
-const TEXT: &[u8] = b"turn 0 0 c7 s1 write 1 5 61 = sent s1 r0 put 1.1 7 1 5 61
+pub(crate) const TEXT: &[u8] = b"turn 0 0 c7 s1 write 1 5 61 = sent s1 r0 put 1.1 7 1 5 61
 turn 1 0 r0 s1 done 1.1 7 1 = sent s1 c7 reply 1 1.1 wrote
 turn 2 0 c8 s1 read 1 5 = sent s1 r0 fastread 1.1 8 1 5
 end 3
