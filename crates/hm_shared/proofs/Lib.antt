@@ -1,0 +1,3 @@
+mod StepFacts
+mod HistoryLaws
+mod WritingLemmas
