@@ -36,8 +36,6 @@ mod schedule;
 #[cfg(test)]
 mod sent;
 #[cfg(test)]
-mod shared;
-#[cfg(test)]
 mod shim;
 #[cfg(test)]
 mod show;
@@ -49,7 +47,5 @@ mod view_change;
 mod vr;
 #[cfg(test)]
 mod vr_rows;
-#[cfg(test)]
-mod worker;
 #[cfg(test)]
 mod world;
