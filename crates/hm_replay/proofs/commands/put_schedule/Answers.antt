@@ -19,7 +19,7 @@ pub returns-in-Err-put_all : goal.returns-in-Err-put_all
 returns-in-Err-put_all g c =
     let put = c.in-Err-put_all.ensures.err in
     failed c.calls_add_up.ensures _ _ _ _ _ _ _ _ _ (c.in-Err-put_all.ensures.counted ∙ ap one_more c.loop-line.invariant.quiet) (rw c.as_slice.ensures at put.1) put.2
-        (writes c.calls_add_up.ensures _ _ _ _ _ _ _ c.in-Some.ensures.line c.in-Ok.ensures.ok c.loop-line.invariant.putting)
+    (writes c.calls_add_up.ensures _ _ _ _ _ _ _ c.in-Some.ensures.line c.in-Ok.ensures.ok c.loop-line.invariant.putting)
 
 pub loop-line-preserved : goal.loop-line-preserved
 loop-line-preserved g c = record {
