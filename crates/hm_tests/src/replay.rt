@@ -163,8 +163,20 @@ fn refuses_a_line_that_is_too_long(rt: HostRuntime) -> Result<(), Fail> {
 fn stops_behind_the_last_event(rt: HostRuntime) -> Result<(), Fail> {
     let alloc = rt.alloc();
     let long = Status::TooLong { line: 16_386 };
-    assert_end(&rt, alloc, (16_384, b"next\n", b""), Status::Done, b"\nend\n")?;
-    assert_end(&rt, alloc, (16_384, b"next\n", b"n"), long, b"\ntoolong 16386\n")
+    assert_end(
+        &rt,
+        alloc,
+        (16_384, b"next\n", b""),
+        Status::Done,
+        b"\nend\n",
+    )?;
+    assert_end(
+        &rt,
+        alloc,
+        (16_384, b"next\n", b"n"),
+        long,
+        b"\ntoolong 16386\n",
+    )
 }
 
 #[test]
