@@ -4,7 +4,7 @@ use Rattle.std.proofs.lemmas.Fmt.{decimal_injective}
 use Rattle.hm_base.specs.declared.node.GroupKind.{GroupKind}
 use Rattle.hm_schedule.specs.Names.{kind_text, kind_named}
 use Rattle.hm_schedule.specs.Schedules.{IsLawfulGroup}
-use Rattle.hm_schedule.proofs.GeneratedLines.{HasMembers, group_members}
+use Rattle.hm_schedule.proofs.GeneratedLines.{group_members}
 use Rattle.hm_schedule.proofs.Names.{named_kind}
 use Rattle.hm_schedule.proofs.group_words.read_group_words.Goals as goal
 
