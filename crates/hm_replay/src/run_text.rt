@@ -88,6 +88,7 @@ pub fn write_outcome(number: u32, outcome: Outcome, out: &mut Text) -> Result<()
         Outcome::Full => write_bytes(b" full\n", out),
         Outcome::Spent => write_bytes(b" spent\n", out),
         Outcome::LogFull => write_bytes(b" logfull\n", out),
+        Outcome::NotAllowed(Bar::NoPacket) => write_bytes(b" barred NoPacket\n", out),
         Outcome::NotAllowed(bar) => write_reason(b" barred ", bar_name(bar), out),
     }
 }

@@ -15,6 +15,7 @@ use Rattle.hm_packet.specs.declared.outcome.Outcome.{Outcome}
 use Rattle.hm_packet.specs.declared.outcome.Outcome.TheVariants as outcome
 use Rattle.hm_packet.specs.Messages.{Message}
 use Rattle.hm_parts.specs.Seen.{Posted}
+use Rattle.hm_refusal_laws.specs.Slotting.{slot_happens}
 use Rattle.hm_rules.specs.Replica.{Replica}
 use Rattle.hm_rules.specs.ReplicaSteps.{Stepped}
 use Rattle.hm_rules.specs.Runs.{finds_full_in, finds_full_with}
@@ -23,6 +24,9 @@ use Rattle.hm_rules.specs.Switch.{AbstractSwitch}
 use Rattle.hm_rules.specs.World.{World, Happened, sent_at, switch_at}
 use Rattle.hm_rules.specs.Deliveries.{to_switch, to_node, deliver}
 use Rattle.hm_rules.specs.Happens.{passed, next}
+use Rattle.hm_schedule.specs.declared.event.Event.{Event}
+use Rattle.hm_schedule.specs.declared.event.Event.TheVariants as event
+use Rattle.hm_schedule.specs.Setups.{event_of}
 use Rattle.hm_world.specs.declared.state.State.{State}
 use Rattle.hm_world.specs.Setups.{setup_fault}
 use Rattle.hm_world.specs.StateFields.{world_of, slotted_of, arrives, IsKept, IsBegun, Keeps, Quietly, Ends}
@@ -76,6 +80,16 @@ pub none_next : (old : State) (o : Option Message) → None ≡ o → Ends old o
 none_next old o is =
     subst (λ (x : Option Message). Ends old old (outcome.NotAllowed bar.NoPacket) (next (finds_full_with (slotted_of old) x) (world_of old) x)) is
     (ends_quietly old old (outcome.NotAllowed bar.NoPacket) (next false (world_of old) None) (record { world = refl; outcome = refl; switches = refl; keeps = keeps_same old }))
+
+-- a `next` for which there is no packet
+pub none_comes : (old : State) (e : Event) → e ≡ event.Next → None ≡ slice_get old.net.packets old.net.cursor → Ends old old (outcome.NotAllowed bar.NoPacket) (slot_happens (slotted_of old) (event_of e))
+none_comes old e is none =
+    let found : Option Message = slice_get old.net.packets old.net.cursor in
+    let place : old.net.cursor ≡ old.net.cursor + 1 - 1 = omega arith in
+    let same : found ≡ sent_at (world_of old) (old.net.cursor + 1) = ap (λ (k : ℕ). slice_get old.net.packets k) place ∙ sent_behind (world_of old) (old.net.cursor + 1) (omega arith) in
+    let ends : Ends old old (outcome.NotAllowed bar.NoPacket) (slot_happens (slotted_of old) (event_of event.Next)) =
+    subst (λ (o : Option Message). Ends old old (outcome.NotAllowed bar.NoPacket) (next (finds_full_with (slotted_of old) o) (world_of old) found)) same (none_next old found none) in
+    subst (λ (v : Event). Ends old old (outcome.NotAllowed bar.NoPacket) (slot_happens (slotted_of old) (event_of v))) (sym is) ends
 
 -- ---- once the cursor has passed a packet
 

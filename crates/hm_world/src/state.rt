@@ -1,6 +1,6 @@
 ghost use Rattle.std.specs.Option.{option_map};
 ghost use Rattle.hm_wire.specs.Packets.{spelling, HasSpelling};
-ghost use Rattle.std.specs.Prelude.{All, option_copied, ◌≡◌, ◌≢◌, ◌<◌, ◌≤◌, ◌+◌, length, Some, None, IfOk, OnOk, OnErr, IfErr, ◌⊎◌};
+ghost use Rattle.std.specs.Prelude.{All, option_copied, ◌≡◌, ◌≢◌, ◌<◌, ◌≤◌, ◌+◌, length, slice_get, true, Some, None, IfOk, OnOk, OnErr, IfErr, ◌⊎◌};
 ghost use Rattle.hm_rules.specs.Runs.{slotted};
 ghost use Rattle.hm_refusal_laws.specs.Slotting.{slot_happens, slot_step};
 ghost use Rattle.hm_rules.specs.World as rule;
@@ -14,7 +14,7 @@ use hm_base::memory::NoMemory;
 use hm_codec::acted::Acted;
 use hm_order::history::History;
 use hm_order::mark::Want;
-use hm_packet::outcome::Outcome;
+use hm_packet::outcome::{Bar, Outcome};
 use hm_parts::clients::Clients;
 use hm_parts::net::Net;
 use hm_parts::observer::Observer;
@@ -70,6 +70,7 @@ impl State {
     }
 
     /// One event, with its bars in order.
+    #[inline(always)]
     pub(crate) fn event(
         &mut self,
         event: &Event,
@@ -89,11 +90,24 @@ impl State {
         if let Event::Start = event {
             return self.start();
         }
+        if self.finds_no_packet(event) {
+            self.events += 1;
+            return Ok(Outcome::NotAllowed(Bar::NoPacket));
+        }
         self.begin()?;
         Ok(self.take(event, acted, room))
     }
 
+    /// Whether an event is a `next` that finds no packet: it gives nothing, and so needs no room.
+    #[inline(always)]
+    fn finds_no_packet(&self, event: &Event) -> bool
+        ensures { result ≡ true → (event.now ≡ Event.Next) × (None ≡ slice_get self.now.net.packets self.now.net.cursor) }
+    {
+        matches!(event, Event::Next) && self.net.cursor() >= self.net.len()
+    }
+
     /// Takes all the room that one event may need, and counts the event.
+    #[inline(always)]
     fn begin(&mut self) -> Result<(), NoMemory>
         requires few { self.old.events < max_events }
         requires kept { IsKept self.old }
@@ -113,6 +127,7 @@ impl State {
     }
 
     /// What an event does once there is room for it. A start takes its own room.
+    #[inline(always)]
     fn take(&mut self, event: &Event, acted: &mut Acted, room: &mut PageRoom) -> Outcome
         requires begun { IsBegun self.old }
         requires other { event.now ≢ Event.Start }

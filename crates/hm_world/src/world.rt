@@ -61,6 +61,7 @@ impl World {
 
     /// One event, with its bars in order. A switch refuses a write exactly where its slots are full for the object. A barred
     /// event changes nothing, and neither does want of memory.
+    #[inline(always)]
     pub fn event(&mut self, event: &Event) -> Result<Outcome, NoMemory>
         requires { self.old.events < max_events }
         ensures world { OnOk result (with_slots self.new ≡ slot_step (with_slots self.old) (event_of event.now)) }
