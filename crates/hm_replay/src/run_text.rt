@@ -88,8 +88,18 @@ pub fn write_outcome(number: u32, outcome: Outcome, out: &mut Text) -> Result<()
         Outcome::Full => write_bytes(b" full\n", out),
         Outcome::Spent => write_bytes(b" spent\n", out),
         Outcome::LogFull => write_bytes(b" logfull\n", out),
-        Outcome::NotAllowed(Bar::NoPacket) => write_bytes(b" barred NoPacket\n", out),
-        Outcome::NotAllowed(bar) => write_reason(b" barred ", bar_name(bar), out),
+        Outcome::NotAllowed(bar) => write_bar(bar, out),
+    }
+}
+
+/// Appends the end of a barred event's line. Most of them find no packet.
+#[inline(always)]
+fn write_bar(bar: Bar, out: &mut Text) -> Result<(), NoMemory>
+    ensures { OnOk result (out.new.items ≡ out.old.items ++ (codes " barred " ++ (bar_text bar ++ codes "\n"))) }
+{
+    match bar {
+        Bar::NoPacket => write_bytes(b" barred NoPacket\n", out),
+        other => write_reason(b" barred ", bar_name(other), out),
     }
 }
 
