@@ -2,6 +2,8 @@
 #![tactic(auto)]
 
 #[cfg(test)]
+mod daemon;
+#[cfg(test)]
 mod shared;
 #[cfg(test)]
 mod worker;

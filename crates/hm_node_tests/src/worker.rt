@@ -1,6 +1,9 @@
+use crate::daemon::words;
 use crate::shared::{TEXT, book, done, read, write};
 use hm_codec::buf::{Buf, MAX_LEN};
 use hm_codec::encode::encode;
+use hm_daemon::node::run_node;
+use hm_daemon::status::NodeStatus;
 use hm_frame::datagram::Item;
 use hm_frame::memory_link::MemoryLink;
 use hm_outside::memory::MemorySink;
@@ -69,5 +72,55 @@ fn ends_at_its_turns_and_at_the_end_of_the_life(rt: HostRuntime) -> Result<(), F
     worker.work(&mut book, 3);
     assert_eq!(rt; worker.end, WorkerEnd::TurnsSpent);
     assert_eq!(rt; (worker.took, worker.sent), (2, 2));
+    Ok(())
+}
+
+#[test]
+fn runs_a_switch(rt: HostRuntime) -> Result<(), Fail> {
+    for (line, status) in [
+        ("switch 1 1 3 10 16 100 chain 1", NodeStatus::Done),
+        ("switch 1 1 3 10 16 5 chain 1", NodeStatus::TurnsSpent),
+    ] {
+        let words = words(rt.alloc(), line)?;
+        let mut workers = [worker(rt.alloc(), 100)?];
+        let mut sink = MemorySink::open(rt.alloc(), 1000, Vec::new(rt.alloc())).map_err(
+            |_| "memory",
+        )?;
+        assert_eq!(rt;
+            run_node(&rt, rt.alloc(), &words, &mut workers, &mut sink),
+            status,
+            "{line}"
+        );
+        assert!(rt; sink.as_slice() == TEXT, "{line}");
+        assert_eq!(rt; (workers[0].took, workers[0].sent), (3, 3), "{line}");
+    }
+    Ok(())
+}
+
+#[test]
+fn runs_no_switch_of_two_workers(rt: HostRuntime) -> Result<(), Fail> {
+    let words = words(rt.alloc(), "switch 1 2 3 10 16 100 chain 1")?;
+    let mut workers = [worker(rt.alloc(), 100)?];
+    let mut sink = MemorySink::open(rt.alloc(), 1000, Vec::new(rt.alloc())).map_err(|_| "memory")?;
+    assert_eq!(rt;
+        run_node(&rt, rt.alloc(), &words, &mut workers, &mut sink),
+        NodeStatus::BadWords
+    );
+    assert_eq!(rt; sink.as_slice().len(), 0);
+    assert_eq!(rt; workers[0].link.sent().len(), 0);
+    Ok(())
+}
+
+#[test]
+fn runs_a_switch_whose_sink_fails(rt: HostRuntime) -> Result<(), Fail> {
+    let words = words(rt.alloc(), "switch 1 1 3 10 16 100 chain 1")?;
+    let mut workers = [worker(rt.alloc(), 100)?];
+    let mut sink = MemorySink::open(rt.alloc(), 1000, vec![in rt.alloc(); 1]?).map_err(
+        |_| "memory",
+    )?;
+    assert_eq!(rt;
+        run_node(&rt, rt.alloc(), &words, &mut workers, &mut sink),
+        NodeStatus::WriteFault
+    );
     Ok(())
 }

@@ -1,0 +1,5 @@
+mod AskLemmas
+mod NodeLemmas
+mod PostLemmas
+mod ServeLemmas
+mod WordTexts

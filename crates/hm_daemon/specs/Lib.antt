@@ -1,0 +1,11 @@
+pub mod Addresses
+pub mod Asking
+pub mod Asks
+pub mod Member
+pub mod Nodes
+pub mod Posts
+pub mod Serves
+pub mod Serving
+pub mod Statuses
+pub mod UdpLinks
+pub mod Words

@@ -1,0 +1,14 @@
+//! The nodes of a group as daemons: the very steps of the world's nodes, over links.
+#![tactic(auto)]
+
+pub mod address;
+pub mod client;
+mod fields;
+mod member;
+pub mod node;
+mod posts;
+pub mod replica;
+mod server;
+pub mod status;
+pub mod udp_link;
+pub mod words;
