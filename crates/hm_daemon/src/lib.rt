@@ -3,11 +3,9 @@
 
 pub mod address;
 pub mod client;
-pub mod config;
 mod fields;
 mod member;
 pub mod node;
-mod order;
 mod posts;
 pub mod replica;
 mod server;
