@@ -19,9 +19,9 @@ use Rattle.hm_frame.specs.declared.datagram.Item.{Item}
 use Rattle.hm_frame.specs.declared.datagram.Item.TheVariants as item
 use Rattle.hm_frame.specs.declared.datagram.Posted.{Posted}
 use Rattle.hm_daemon.specs.Asking.{request_of, reply_of, reply_in, again, sends}
-use Rattle.hm_daemon.specs.Asks.{HasWaited, HasAsked, HasReply, IsCutAsking, IsUnput}
-use Rattle.hm_daemon.specs.Posts.{post_of, posts_of, Says, IsHeard}
-use Rattle.hm_daemon.specs.Serving.{Heard}
+use Rattle.hm_daemon.specs.Asks.{HasWaited, HasAsked, HasReply, HasNotHeard, IsCutAsking, IsUnput}
+use Rattle.hm_worker.specs.Posts.{post_of, posts_of, Says, IsHeard}
+use Rattle.hm_worker.specs.Heard.{Heard}
 use Rattle.hm_daemon.specs.declared.words.ClientWords.{ClientWords}
 use Rattle.hm_daemon.proofs.ServeLemmas.{heard_more, gets_none, gets_after, loses_none}
 use Rattle.hm_packet.specs.declared.body.Reply.{Reply}
@@ -84,8 +84,8 @@ cut_start calls w coming came sent posted a b untaken unsent failed = record {
   waited = record { are_heard = tt; none = tt };
   within = omega arith;
   taken = loses_none calls coming came untaken;
-  front = [];
-  is_front = record { rest = sends w []; parts = refl };
+  earlier = [];
+  last = refl;
   sent = gets_none calls sent posted unsent;
   failed = failed;
 }
@@ -158,37 +158,27 @@ cut_again calls w count coming mid come came sent between mid_sent posted a b e 
       waited = waited_more w asked.items asked.heard item.Quiet Heard.Quiet asked.waited tt refl;
       within = omega (arith, length-append asked.items (item.Quiet ∷ []), asked.counted, few);
       taken = calls.takes_kept coming come came (asked.items ++ item.Quiet ∷ []) (calls.takes_both coming mid come asked.items (item.Quiet ∷ []) asked.taken taken) untaken;
-      front = sends w asked.heard;
-      is_front = record { rest = request_of w ∷ []; parts = sym more };
+      earlier = sends w asked.heard;
+      last = more;
       sent = calls.sends_kept sent mid_sent posted (posts_of (sends w asked.heard)) (calls.sends_kept sent between mid_sent (posts_of (sends w asked.heard)) asked.sent kept) unsent;
       failed = failed;
     }
 
--- a take ended or failed
-pub asked_kept : LinkCallsAddUp → (w : ClientWords) (count : ℕ) (coming mid came : Option (List Item)) (sent between posted : Option (List Posted)) (a b e f : ℕ)
-    → HasAsked w count (record { coming = coming; came = mid; sent = sent; posted = between; before = a; after = b }) → Keeps mid came → Keeps between posted
-    → HasAsked w count (record { coming = coming; came = came; sent = sent; posted = posted; before = e; after = f })
-asked_kept calls w count coming mid came sent between posted a b e f asked untaken unsent = record {
-  items = asked.items;
-  heard = asked.heard;
-  waited = asked.waited;
-  counted = asked.counted;
-  taken = calls.takes_kept coming mid came asked.items asked.taken untaken;
-  sent = calls.sends_kept sent between posted (posts_of (sends w asked.heard)) asked.sent unsent;
-}
-
-pub cut_take : LinkCallsAddUp → (w : ClientWords) (count : ℕ) (coming mid came : Option (List Item)) (sent between posted : Option (List Posted)) (a b e f : ℕ)
+-- a take failed
+pub not_heard : LinkCallsAddUp → (w : ClientWords) (count : ℕ) (coming mid came : Option (List Item)) (sent between posted : Option (List Posted)) (a b e f : ℕ)
     → HasAsked w count (record { coming = coming; came = mid; sent = sent; posted = between; before = a; after = b }) → Keeps mid came → Keeps between posted → count < w.turns → f ≡ one_more e
-    → IsCutAsking w (record { coming = coming; came = came; sent = sent; posted = posted; before = e; after = f })
-cut_take calls w count coming mid came sent between posted a b e f asked untaken unsent few failed = record {
-  items = asked.items;
-  heard = asked.heard;
-  waited = asked.waited;
-  within = omega (arith, asked.counted, few);
-  taken = calls.takes_kept coming mid came asked.items asked.taken untaken;
-  front = sends w asked.heard;
-  is_front = record { rest = []; parts = append-nil (sends w asked.heard) };
-  sent = calls.sends_kept sent between posted (posts_of (sends w asked.heard)) asked.sent unsent;
+    → HasNotHeard w (record { coming = coming; came = came; sent = sent; posted = posted; before = e; after = f })
+not_heard calls w count coming mid came sent between posted a b e f asked untaken unsent few failed = record {
+  count = count;
+  within = few;
+  has_asked = record {
+    items = asked.items;
+    heard = asked.heard;
+    waited = asked.waited;
+    counted = asked.counted;
+    taken = calls.takes_kept coming mid came asked.items asked.taken untaken;
+    sent = calls.sends_kept sent between posted (posts_of (sends w asked.heard)) asked.sent unsent;
+  };
   failed = failed;
 }
 

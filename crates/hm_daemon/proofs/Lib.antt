@@ -2,4 +2,5 @@ mod AskLemmas
 mod NodeLemmas
 mod PostLemmas
 mod ServeLemmas
+mod StartLemmas
 mod WordTexts

@@ -6,7 +6,6 @@ use Rattle.std.proofs.lemmas.List.Elements.{All-get_or}
 use Rattle.std.proofs.lemmas.Grind.{flat_map-append}
 use Rattle.std.proofs.Math.Seq.{take-append_seam, drop-append_seam, get_or-append_seam}
 use Rattle.hm_base.specs.declared.node.Node.{Node}
-use Rattle.hm_base.specs.Lists.{IsPrefix}
 use Rattle.hm_packet.specs.declared.body.Body.{Body}
 use Rattle.hm_packet.specs.Messages.{Message}
 use Rattle.hm_codec.specs.Rows.{ends_from}
@@ -18,7 +17,7 @@ use Rattle.hm_wire.specs.declared.fault.Fault.{Fault}
 use Rattle.hm_wire.specs.declared.head.Head.{Head}
 use Rattle.hm_wire.specs.Packets.{spelling, HasSpelling}
 use Rattle.hm_wire.specs.Reading.{Part, ◌>>=◌, head_at, body_at, end_with, whole, packet_of}
-use Rattle.hm_daemon.specs.Posts.{post_of, posts_of}
+use Rattle.hm_worker.specs.Posts.{post_of, posts_of}
 
 -- ---- where a packet goes
 
@@ -155,10 +154,6 @@ all_sent outs index begin sent now s whole =
     let none : length s.rest ≡ 0 = omega (arith, all, s.counted, whole) in
     let outs_are : outs ≡ s.done = s.parts ∙ ap (λ (l : List Message). s.done ++ l) (nil_from_length s.rest none) ∙ append-nil s.done in
     subst (λ (l : List Message). Gets sent now (posts_of l)) (sym outs_are) s.gets
-
-pub front_sent : (outs : List Message) (index begin : ℕ) (sent now : Option (List Posted)) → HasSent outs index begin sent now
-    → (front : List Message) × IsPrefix front outs × Gets sent now (posts_of front)
-front_sent outs index begin sent now s = (s.done, record { rest = s.rest; parts = sym s.parts }, s.gets)
 
 -- what two calls keep
 pub keeps_both : (coming mid came : Option (List Item)) → Keeps coming mid → Keeps mid came → Keeps coming came

@@ -15,9 +15,10 @@ use Rattle.hm_codec.specs.declared.acted.Acted.{Acted}
 use Rattle.hm_replica.specs.Given.{Gives}
 use Rattle.hm_rules.specs.Replica.{Replica}
 use Rattle.hm_rules.specs.ReplicaSteps.{Stepped}
-use Rattle.hm_daemon.specs.Posts.{post_of, posts_of, Says, IsHeard, AreHeard}
+use Rattle.hm_worker.specs.Posts.{post_of, posts_of, Says, IsHeard, AreHeard}
 use Rattle.hm_daemon.specs.Serves.{Passing, HasServed, IsServing, IsCutServing, Serves, TakesOne, HasTurned, HasNotSent, Turns}
-use Rattle.hm_daemon.specs.Serving.{Heard, Serving, stepped, hears, after, outs_of}
+use Rattle.hm_worker.specs.Heard.{Heard}
+use Rattle.hm_daemon.specs.Serving.{Serving, stepped, hears, after, outs_of}
 use Rattle.hm_daemon.specs.declared.status.NodeStatus.{NodeStatus}
 use Rattle.hm_daemon.specs.declared.status.NodeStatus.TheVariants as status
 

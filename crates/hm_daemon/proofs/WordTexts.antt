@@ -1,5 +1,5 @@
 -- The texts of words: that each has one meaning.
-use Rattle.std.proofs.Common.{◌≡◌, ◌≢◌, ℕ, zero, suc, ◌+◌, ◌*◌, ◌/◌, ◌%◌, ◌<◌, ◌≤◌, ◌^◌, List, [], ◌∷◌, ◌++◌, length, get_or, refl, sym, ap, subst, ◌∙◌, arith, lit<, Some}
+use Rattle.std.proofs.Common.{◌≡◌, ◌≢◌, ℕ, zero, suc, ◌+◌, ◌*◌, ◌/◌, ◌%◌, ◌<◌, ◌≤◌, ◌^◌, List, [], ◌∷◌, ◌++◌, length, get_or, refl, sym, ap, subst, ◌∙◌, arith, lit<}
 use Rattle.std.specs.Prelude.{decimal, codes, map, All}
 use Rattle.std.specs.List.{AllByRecursion}
 use Rattle.std.proofs.lemmas.List.Elements.{All-nil, All-cons, All-push, All-weaker, All-get_or, All-from_recursion, recursion_from_All}
@@ -14,7 +14,6 @@ use Rattle.hm_base.specs.declared.node.GroupKind.{GroupKind}
 use Rattle.hm_base.specs.declared.node.GroupKind.TheVariants as kind
 use Rattle.hm_order.specs.declared.mark.Want.{Want}
 use Rattle.hm_order.specs.declared.mark.Want.TheVariants as want
-use Rattle.hm_schedule.specs.Names.{kind_text, kind_named}
 use Rattle.hm_schedule.specs.Schedules.{IsLawfulGroup}
 use Rattle.hm_daemon.specs.Addresses.{IsNode, IsAddress}
 use Rattle.hm_daemon.specs.Words.{IsWant, object_of}
@@ -122,11 +121,6 @@ has_sign w v s whole same = sign_there v s (subst (λ (l : List ℕ). AllByRecur
 
 -- ---- groups
 
-pub named_kind : (k : GroupKind) → kind_named (kind_text k) ≡ Some k
-named_kind kind.Chain = refl
-named_kind kind.Primary = refl
-named_kind kind.Vr = refl
-
 odd_is_some : (n : ℕ) → n % 2 ≡ 1 → 1 ≤ n
 odd_is_some zero is = absurd (omega (arith, is))
 odd_is_some (suc n) is = omega arith
@@ -136,16 +130,10 @@ size_range kind.Chain n lawful = lawful
 size_range kind.Primary n lawful = lawful
 size_range kind.Vr n lawful = (odd_is_some n lawful.0, lawful.1)
 
-pub same_group : (k j : GroupKind) (n m : ℕ) → k ≡ j → n ≡ m → IsLawfulGroup j m → IsLawfulGroup k n
-same_group k j n m of_kind of_size lawful = subst (λ (g : GroupKind). IsLawfulGroup g n) (sym of_kind) (subst (λ (i : ℕ). IsLawfulGroup j i) (sym of_size) lawful)
-
 pub few_replicas : (k : GroupKind) (n me : ℕ) → me < n → IsLawfulGroup k n → me ≤ 6
 few_replicas k n me below lawful = let range = size_range k n lawful in omega (arith, range.1)
 
 -- ---- addresses
-
-pub no_words : (words : List (List ℕ)) → words ≡ [] → All IsAddress words
-no_words words none = subst (λ (ws : List (List ℕ)). All IsAddress ws) (sym none) (All-nil IsAddress)
 
 pub one_more_word : (words rest : List (List ℕ)) (word : List ℕ) → words ≡ word ∷ rest → IsAddress word → All IsAddress rest → All IsAddress words
 one_more_word words rest word is first others = subst (λ (ws : List (List ℕ)). All IsAddress ws) (sym is) (All-cons IsAddress word rest first others)

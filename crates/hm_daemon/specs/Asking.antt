@@ -11,7 +11,7 @@ use Rattle.hm_packet.specs.declared.body.Body.TheVariants as body
 use Rattle.hm_packet.specs.declared.body.Reply.{Reply}
 use Rattle.hm_rules.specs.Deliveries.{fits}
 use Rattle.hm_rules.specs.Senders.{same_node}
-use Rattle.hm_daemon.specs.Serving.{Heard}
+use Rattle.hm_worker.specs.Heard.{Heard}
 use Rattle.hm_daemon.specs.declared.words.ClientWords.{ClientWords}
 
 abbrev pub body_for : ℕ → Want → Body

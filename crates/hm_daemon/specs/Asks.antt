@@ -1,5 +1,5 @@
 -- How a client's daemon ends, and what it took, sent and put by then.
-use Rattle.std.specs.Prelude.{◌≡◌, ℕ, ◌<◌, ◌≤◌, List, [], ◌∷◌, ◌++◌, length, Option, Some, None}
+use Rattle.std.specs.Prelude.{◌≡◌, ℕ, ◌<◌, ◌≤◌, ◌⊎◌, List, [], ◌∷◌, ◌++◌, length, Option, Some, None}
 use Rattle.std.specs.List.{AllByRecursion}
 use Rattle.std.specs.Io.KnownBytes.{Appends}
 use Rattle.hm_base.specs.Lists.{IsPrefix}
@@ -8,10 +8,10 @@ use Rattle.hm_frame.specs.declared.datagram.Item.{Item}
 use Rattle.hm_outside.specs.Faults.{one_more}
 use Rattle.hm_packet.specs.Messages.{Message}
 use Rattle.hm_packet.specs.declared.body.Reply.{Reply}
-use Rattle.hm_daemon.specs.Asking.{reply_in, sends, reply_head, reply_line}
-use Rattle.hm_daemon.specs.Posts.{posts_of, AreHeard}
+use Rattle.hm_daemon.specs.Asking.{request_of, reply_in, sends, reply_head, reply_line}
+use Rattle.hm_worker.specs.Posts.{posts_of, AreHeard}
 use Rattle.hm_daemon.specs.Serves.{Passing, IsIdle}
-use Rattle.hm_daemon.specs.Serving.{Heard}
+use Rattle.hm_worker.specs.Heard.{Heard}
 use Rattle.hm_daemon.specs.declared.status.NodeStatus.{NodeStatus}
 use Rattle.hm_daemon.specs.declared.status.NodeStatus.TheVariants as status
 use Rattle.hm_daemon.specs.declared.words.ClientWords.{ClientWords}
@@ -60,16 +60,23 @@ pub record HasReply (w : ClientWords) (reply : Reply) (p : Passing) : Type 0 whe
   pub sent : Gets p.sent p.posted (posts_of (sends w heard))
   pub sound : p.after ≡ p.before
 
--- a take or a send failed: what was sent is a front of what was to be
+-- a take failed: all that was to be sent by then was sent
+pub record HasNotHeard (w : ClientWords) (p : Passing) : Type 0 where
+  pub count : ℕ
+  pub within : count < w.turns
+  pub has_asked : HasAsked w count p
+  pub failed : p.after ≡ one_more p.before
+
+-- a send failed: the last request that was to be sent wasn't, and those before it were
 pub record IsCutAsking (w : ClientWords) (p : Passing) : Type 0 where
   pub items : List Item
   pub heard : List Heard
   pub waited : HasWaited w items heard
   pub within : length items ≤ w.turns
   pub taken : Loses p.coming p.came items
-  pub front : List Message
-  pub is_front : IsPrefix front (sends w heard)
-  pub sent : Gets p.sent p.posted (posts_of front)
+  pub earlier : List Message
+  pub last : sends w heard ≡ earlier ++ request_of w ∷ []
+  pub sent : Gets p.sent p.posted (posts_of earlier)
   pub failed : p.after ≡ one_more p.before
 
 pub record PutsReply (w : ClientWords) (p : Passing) (k : Putting) : Type 0 where
@@ -102,6 +109,6 @@ Asks status.Done w p k = PutsReply w p k
 Asks status.WriteFault w p k = PutsReplyFront w p k
 Asks status.NoReply w p k = EndsUnanswered w p × IsUnput k
 Asks status.TurnsSpent w p k = SpendsTurns w p × IsUnput k
-Asks status.LinkFault w p k = IsCutAsking w p × IsUnput k
+Asks status.LinkFault w p k = (HasNotHeard w p ⊎ IsCutAsking w p) × IsUnput k
 Asks status.NoMemory w p k = IsIdleClient p k
 Asks other w p k = ⊥

@@ -3,7 +3,6 @@ pub mod Asking
 pub mod Asks
 pub mod Member
 pub mod Nodes
-pub mod Posts
 pub mod Serves
 pub mod Serving
 pub mod Statuses

@@ -8,8 +8,9 @@ use Rattle.hm_outside.specs.Faults.{one_more}
 use Rattle.hm_packet.specs.Messages.{Message}
 use Rattle.hm_rules.specs.Replica.{opened}
 use Rattle.hm_rules.specs.Service.{replicas_below}
-use Rattle.hm_daemon.specs.Posts.{posts_of, IsHeard, AreHeard}
-use Rattle.hm_daemon.specs.Serving.{Heard, Serving, hears, after, outs_of}
+use Rattle.hm_worker.specs.Posts.{posts_of, IsHeard, AreHeard}
+use Rattle.hm_worker.specs.Heard.{Heard}
+use Rattle.hm_daemon.specs.Serving.{Serving, hears, after, outs_of}
 use Rattle.hm_daemon.specs.declared.status.NodeStatus.{NodeStatus}
 use Rattle.hm_daemon.specs.declared.status.NodeStatus.TheVariants as status
 use Rattle.hm_daemon.specs.declared.words.ReplicaWords.{ReplicaWords}

@@ -7,12 +7,7 @@ use Rattle.hm_rules.specs.Deliveries.{replica_step, replica_tick}
 use Rattle.hm_rules.specs.Replica.{Replica}
 use Rattle.hm_rules.specs.ReplicaSteps.{Stepped}
 use Rattle.hm_rules.specs.Viewstamped.{vr_timeout}
-
--- what is heard at once: a packet, a datagram that is none, or nothing in the link's waiting time
-pub data Heard : Type 0 where
-  Packet : Message → Heard
-  Malformed : Heard
-  Quiet : Heard
+use Rattle.hm_worker.specs.Heard.{Heard}
 
 -- The replica, and its patience: after so many waiting times in a row in which nothing came, 0 for never, it gives its leader up.
 -- `left` counts down to that.

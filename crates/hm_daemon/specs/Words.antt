@@ -1,6 +1,8 @@
 -- The words that the daemons are started with.
 use Rattle.std.specs.Prelude.{◌≡◌, ℕ, ◌^◌, ◌<◌, ◌≤◌, List, ◌∷◌, All, codes, decimal}
 use Rattle.hm_base.specs.Spellings.{value_text}
+use Rattle.hm_base.specs.declared.node.Node.{Node}
+use Rattle.hm_base.specs.declared.node.Node.TheVariants as node
 use Rattle.hm_order.specs.declared.mark.Want.{Want}
 use Rattle.hm_order.specs.declared.mark.Want.TheVariants as want
 use Rattle.hm_schedule.specs.Names.{kind_text}
@@ -80,3 +82,10 @@ pub record IsClientWords (words : List (List ℕ)) (w : ClientWords) : Type 0 wh
   pub of_turns : AreTurns w.turns
   pub of_want : IsWant w.want
   pub of_addresses : All IsAddress addresses
+
+-- whether words start this node
+abbrev pub Starts : List (List ℕ) → Node → Type 0
+Starts words (node.Switch id) = (w : SwitchWords) × IsSwitchWords words w × (w.id ≡ id)
+Starts words (node.Replica me) = (w : ReplicaWords) × IsReplicaWords words w × (w.me ≡ me)
+Starts words node.Config = (w : ConfigWords) × IsConfigWords words w
+Starts words (node.Client client) = (w : ClientWords) × IsClientWords words w × (w.op.client ≡ client)

@@ -7,8 +7,8 @@ use hm_base::node::Node;
 use hm_base::spelling::read_number;
 use memchr::memchr;
 
-/// The greatest number of a client or a switch.
-const MAX_NUMBER: u64 = 4_294_967_295;
+/// The greatest number of a client, a switch or an object.
+pub(crate) const MAX_NUMBER: u64 = u32::MAX as u64;
 
 /// The greatest number of a replica.
 const MAX_REPLICA: u64 = 6;

@@ -1,11 +1,12 @@
 ghost use Rattle.std.specs.Prelude.{◌≡◌, ℕ, ◌≤◌, ◌↔◌, List, [], ◌∷◌, map, All, IfSome, IfNone, IsTrue, IsSomeAnd, decimal, string_bytes};
 ghost use Rattle.hm_base.specs.declared.node.GroupKind.{GroupKind};
 ghost use Rattle.hm_daemon.specs.Addresses.{IsAddress};
-ghost use Rattle.hm_schedule.specs.Names.{kind_text, kind_named};
+ghost use Rattle.hm_schedule.specs.Names.{kind_text};
 ghost use Rattle.hm_schedule.specs.Schedules.{IsLawfulGroup};
 
 use crate::address::{is_address, number_within};
 use hm_base::node::GroupKind;
+use hm_schedule::group_words::read_group_words;
 
 /// The first word, and the others. None exactly where there are none.
 pub(crate) fn next_word(words: &[String]) -> Option<(&[u8], &[String])>
@@ -43,31 +44,6 @@ pub(crate) fn next_number(words: &[String], least: u64, most: u64) -> Option<(u6
     Some((number, rest))
 }
 
-/// The protocol that a word names. None exactly for any other word.
-fn kind_of(word: &[u8]) -> Option<GroupKind>
-    ensures { result ≡ kind_named word.now }
-{
-    if word == b"chain".as_slice() {
-        Some(GroupKind::Chain)
-    } else if word == b"primary".as_slice() {
-        Some(GroupKind::Primary)
-    } else if word == b"vr".as_slice() {
-        Some(GroupKind::Vr)
-    } else {
-        None
-    }
-}
-
-/// Whether groups of this protocol may have this size.
-fn has_size(kind: GroupKind, size: u8) -> bool
-    ensures { IsTrue result ↔ IsLawfulGroup kind size }
-{
-    match kind {
-        GroupKind::Chain | GroupKind::Primary => size >= 1 && size <= 7,
-        GroupKind::Vr => size % 2 == 1 && size <= 7,
-    }
-}
-
 /// A protocol and a size, and the other words. None exactly where the first two words aren't those of a group.
 pub(crate) fn next_group(words: &[String]) -> Option<(GroupKind, u8, &[String])>
     ensures some { IfSome result (λ f. (map string_bytes words.now ≡ kind_text f.0 ∷ decimal f.1 ∷ map string_bytes f.2.now) × IsLawfulGroup f.0 f.1) }
@@ -75,15 +51,10 @@ pub(crate) fn next_group(words: &[String]) -> Option<(GroupKind, u8, &[String])>
         → map string_bytes words.now ≡ kind_text kind ∷ decimal size ∷ rest
         → IsSomeAnd result (λ f. (f.0 ≡ kind) × (f.1 ≡ size) × (map string_bytes f.2.now ≡ rest)) }
 {
-    let (word, rest) = next_word(words)?;
-    let kind = kind_of(word)?;
-    let (size, rest) = next_number(rest, 1, 7)?;
-    let size = size as u8;
-    if has_size(kind, size) {
-        Some((kind, size, rest))
-    } else {
-        None
-    }
+    let (kind, rest) = next_word(words)?;
+    let (size, rest) = next_word(rest)?;
+    let (kind, size) = read_group_words(kind, size)?;
+    Some((kind, size, rest))
 }
 
 /// Whether each word tells where a node is.

@@ -6,7 +6,7 @@ pub mod client;
 mod fields;
 mod member;
 pub mod node;
-mod posts;
+pub mod posts;
 pub mod replica;
 mod server;
 pub mod status;

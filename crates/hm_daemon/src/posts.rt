@@ -1,6 +1,6 @@
 ghost use Rattle.std.specs.Prelude.{◌≡◌, List, OnOk, OnErr};
 ghost use Rattle.hm_base.specs.Lists.{IsPrefix};
-ghost use Rattle.hm_daemon.specs.Posts.{posts_of};
+ghost use Rattle.hm_worker.specs.Posts.{posts_of};
 ghost use Rattle.hm_frame.specs.Links.{Gets, Keeps};
 ghost use Rattle.hm_outside.specs.Faults.{Counts};
 ghost use Rattle.hm_packet.specs.Messages.{Message};
@@ -26,7 +26,7 @@ fn destination(spelled: &[u8]) -> Node
 }
 
 /// Sends packets in order, each as a datagram to its destination. Where a send fails, those before it were sent.
-pub(crate) fn send_all<L: Link>(outs: &Outs, link: &mut L) -> Result<(), Failed>
+pub fn send_all<L: Link>(outs: &Outs, link: &mut L) -> Result<(), Failed>
     ensures ok { OnOk result (Gets (L.sent link.old) (L.sent link.new) (posts_of outs.now)) }
     ensures err { OnErr result ((front : List Message) × IsPrefix front outs.now × Gets (L.sent link.old) (L.sent link.new) (posts_of front)) }
     ensures untaken { Keeps (L.coming link.old) (L.coming link.new) }

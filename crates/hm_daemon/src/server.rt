@@ -1,8 +1,9 @@
 ghost use Rattle.std.specs.Prelude.{◌≡◌, ◌<◌, ◌≤◌, List, IfOk, IfErr, OnOk, length};
 ghost use Rattle.hm_base.specs.Lists.{IsPrefix};
-ghost use Rattle.hm_daemon.specs.Posts.{Says, posts_of};
+ghost use Rattle.hm_worker.specs.Posts.{Says, posts_of};
 ghost use Rattle.hm_daemon.specs.Serves.{Serves, Turns, starts};
-ghost use Rattle.hm_daemon.specs.Serving.{Heard, hears};
+ghost use Rattle.hm_worker.specs.Heard.{Heard};
+ghost use Rattle.hm_daemon.specs.Serving.{hears};
 ghost use Rattle.hm_frame.specs.Links.{Gets, Keeps, max_datagram_len};
 ghost use Rattle.hm_outside.specs.Faults.{Counts};
 ghost use Rattle.hm_packet.specs.Messages.{Message};

@@ -77,7 +77,8 @@ impl Link for UdpLink {
     }
 }
 
-/// Whether an error of a socket says no more than that nothing came, or that a datagram is lost.
+/// Whether an error of a socket says no more than that nothing came, or that a datagram is lost: on its way, where there is none just
+/// now, or at a rule of this machine's packet filter.
 fn is_passing(error: &Error) -> bool {
     match error.kind() {
         ErrorKind::WouldBlock
@@ -85,7 +86,9 @@ fn is_passing(error: &Error) -> bool {
         | ErrorKind::Interrupted
         | ErrorKind::ConnectionRefused
         | ErrorKind::HostUnreachable
-        | ErrorKind::NetworkUnreachable => true,
+        | ErrorKind::NetworkDown
+        | ErrorKind::NetworkUnreachable
+        | ErrorKind::PermissionDenied => true,
         _ => false,
     }
 }

@@ -1,19 +1,18 @@
 ghost use Rattle.std.specs.Prelude.{◌≡◌, map, string_bytes, IfSome, Some};
+ghost use Rattle.hm_base.specs.declared.node.Node.{Node};
 ghost use Rattle.hm_order.specs.declared.mark.Want.{Want};
-ghost use Rattle.hm_daemon.specs.Words.{IsSwitchWords, IsReplicaWords, IsConfigWords, IsClientWords, IsWant, want_text, object_of};
+ghost use Rattle.hm_daemon.specs.Words.{IsSwitchWords, IsReplicaWords, IsConfigWords, IsClientWords, IsWant, Starts, want_text, object_of};
 ghost use Rattle.hm_daemon.specs.declared.words.ClientWords.{ClientWords};
 ghost use Rattle.hm_daemon.specs.declared.words.ConfigWords.{ConfigWords};
 ghost use Rattle.hm_daemon.specs.declared.words.ReplicaWords.{ReplicaWords};
 ghost use Rattle.hm_daemon.specs.declared.words.SwitchWords.{SwitchWords};
 
+use crate::address::MAX_NUMBER;
 use crate::fields::{are_addresses, next_group, next_name, next_number, next_word};
-use hm_base::node::GroupKind;
+use hm_base::node::{GroupKind, Node};
 use hm_base::operation::OpId;
 use hm_base::spelling::read_value;
 use hm_order::mark::Want;
-
-/// The greatest number of a client, a switch or an object.
-const MAX_NUMBER: u64 = 4_294_967_295;
 
 /// How many workers a switch has at most.
 pub const MAX_WORKERS: u64 = 16;
@@ -171,4 +170,22 @@ pub fn client_words(words: &[String]) -> Option<ClientWords>
         turns,
         want,
     })
+}
+
+/// The node that the words start. None exactly for words that start none.
+pub fn node_of(words: &[String]) -> Option<Node>
+    ensures some { IfSome result (λ n. Starts (map string_bytes words.now) n) }
+    ensures only { (n : Node) → Starts (map string_bytes words.now) n → result ≡ Some n }
+{
+    if let Some(words) = switch_words(words) {
+        Some(Node::Switch(words.id))
+    } else if let Some(words) = replica_words(words) {
+        Some(Node::Replica(words.me))
+    } else if config_words(words).is_some() {
+        Some(Node::Config)
+    } else if let Some(words) = client_words(words) {
+        Some(Node::Client(words.op.client))
+    } else {
+        None
+    }
 }

@@ -29,26 +29,27 @@ pub(crate) fn words(alloc: Global, line: &str) -> Result<Vec<String>, Fail> {
 }
 
 /// A packet's spelling.
-fn spelled(packet: &Packet) -> Buf<MAX_LEN> {
+pub(crate) fn spelled(packet: &Packet) -> Buf<MAX_LEN> {
     let mut buf = Buf::new();
     encode(packet, &mut buf);
     buf
 }
 
 /// A link to which one packet comes, whose calls with the listed numbers fail.
-fn link_with(alloc: Global, packet: &Packet, fails: &[u64]) -> Result<MemoryLink, Fail> {
-    let mut coming = Vec::new(alloc);
-    coming.push(Item::Datagram(spelled(packet)))?;
-    let mut listed = Vec::new(alloc);
-    listed.extend_from_slice(fails)?;
-    Ok(MemoryLink::open(alloc, coming, 4, listed)?)
+pub(crate) fn link_with(alloc: Global, packet: &Packet, fails: &[u64]) -> Result<MemoryLink, Fail> {
+    let coming = vec![in alloc; Item::Datagram(spelled(packet))]?;
+    Ok(MemoryLink::open(alloc, coming, 4, fails.to_vec(alloc)?)?)
+}
+
+/// Whether this packet was sent.
+pub(crate) fn is_posted(posted: &Posted, packet: &Packet) -> bool {
+    posted.dst == packet.dst && posted.bytes.as_slice() == spelled(packet).as_slice()
 }
 
 /// Whether just this packet was sent.
 fn is_sent(sent: &[Posted], packet: &Packet) -> bool {
     match sent {
-        [posted] => posted.dst == packet.dst
-            && posted.bytes.as_slice() == spelled(packet).as_slice(),
+        [posted] => is_posted(posted, packet),
         _ => false,
     }
 }
@@ -102,17 +103,20 @@ fn serves_a_chain_of_one(rt: HostRuntime) -> Result<(), Fail> {
     Ok(())
 }
 
+/// How a replica of these words ends over a link to which the write comes and whose calls with these numbers fail, and how many
+/// datagrams it sent.
+fn served(alloc: Global, line: &str, fails: &[u64]) -> Result<(NodeStatus, usize), Fail> {
+    let words = words(alloc, line)?;
+    let mut link = link_with(alloc, &put()?, fails)?;
+    let status = serve_replica(alloc, &words, &mut link);
+    Ok((status, link.sent().len()))
+}
+
 #[test]
 fn stops_where_the_link_of_a_replica_fails(rt: HostRuntime) -> Result<(), Fail> {
-    let words = words(rt.alloc(), "replica 0 chain 1 16 10 0")?;
-    for call in 1..4 {
-        let mut link = link_with(rt.alloc(), &put()?, &[call])?;
-        assert_eq!(rt;
-            serve_replica(rt.alloc(), &words, &mut link),
-            NodeStatus::LinkFault,
-            "at {call}"
-        );
-        assert_eq!(rt; link.sent().len(), usize::from(call == 3), "at {call}");
+    for (call, sent) in [(1, 0), (2, 0), (3, 1)] {
+        let ended = served(rt.alloc(), "replica 0 chain 1 16 10 0", &[call])?;
+        assert_eq!(rt; ended, (NodeStatus::LinkFault, sent), "at {call}");
     }
     Ok(())
 }
@@ -140,19 +144,21 @@ fn asks_and_writes_the_reply(rt: HostRuntime) -> Result<(), Fail> {
     Ok(())
 }
 
+/// How a client ends over a link to which the reply comes and whose calls with these numbers fail, how many datagrams it sent, and
+/// how many bytes it wrote.
+fn asked(alloc: Global, fails: &[u64]) -> Result<(NodeStatus, usize, usize), Fail> {
+    let words = words(alloc, "client 7 1 1 10 5 61")?;
+    let mut link = link_with(alloc, &reply(), fails)?;
+    let mut sink = MemorySink::open(alloc, 100, Vec::new(alloc))?;
+    let status = ask(alloc, &words, &mut link, &mut sink);
+    Ok((status, link.sent().len(), sink.as_slice().len()))
+}
+
 #[test]
 fn stops_where_the_link_of_a_client_fails(rt: HostRuntime) -> Result<(), Fail> {
-    let words = words(rt.alloc(), "client 7 1 1 10 5 61")?;
-    for call in 1..3 {
-        let mut link = link_with(rt.alloc(), &reply(), &[call])?;
-        let mut sink = MemorySink::open(rt.alloc(), 100, Vec::new(rt.alloc()))?;
-        assert_eq!(rt;
-            ask(rt.alloc(), &words, &mut link, &mut sink),
-            NodeStatus::LinkFault,
-            "at {call}"
-        );
-        assert_eq!(rt; link.sent().len(), usize::from(call == 2), "at {call}");
-        assert_eq!(rt; sink.as_slice().len(), 0);
+    for (call, sent) in [(1, 0), (2, 1)] {
+        let ended = asked(rt.alloc(), &[call])?;
+        assert_eq!(rt; ended, (NodeStatus::LinkFault, sent, 0), "at {call}");
     }
     Ok(())
 }
@@ -165,14 +171,8 @@ fn takes_no_other_words(rt: HostRuntime) -> Result<(), Fail> {
         "replica 0 chain 1 16 0 0",
         "replica 0 chain 1 16 10 0 r0=",
     ] {
-        let words = words(rt.alloc(), line)?;
-        let mut link = link_with(rt.alloc(), &put()?, &[])?;
-        assert_eq!(rt;
-            serve_replica(rt.alloc(), &words, &mut link),
-            NodeStatus::BadWords,
-            "{line}"
-        );
-        assert_eq!(rt; link.sent().len(), 0);
+        let ended = served(rt.alloc(), line, &[])?;
+        assert_eq!(rt; ended, (NodeStatus::BadWords, 0), "{line}");
     }
     Ok(())
 }
@@ -186,34 +186,48 @@ fn socket(rt: &HostRuntime) -> Result<(UdpSocket, SocketAddr), Fail> {
     Ok((socket, address))
 }
 
+/// The links of client 7, switch 1 and replica 0 to each other.
+fn links(rt: &HostRuntime) -> Result<[UdpLink; 3], Fail> {
+    let (client, client_address) = socket(rt)?;
+    let (switch, switch_address) = socket(rt)?;
+    let (replica, replica_address) = socket(rt)?;
+    let nodes = vec![in rt.alloc();
+        (Node::Client(7), client_address),
+        (Node::Switch(1), switch_address),
+        (Node::Replica(0), replica_address),
+    ]?;
+    Ok([
+        UdpLink::new(client, nodes.clone()?),
+        UdpLink::new(switch, nodes.clone()?),
+        UdpLink::new(replica, nodes),
+    ])
+}
+
+/// Whether a packet that is sent over one link comes over another.
+fn is_carried(from: &mut UdpLink, to: &mut UdpLink, packet: &Packet) -> Result<bool, Fail> {
+    let bytes = spelled(packet);
+    from.send(packet.dst, bytes.as_slice())?;
+    let mut buf = [0; MAX_LEN];
+    Ok(to.take(&mut buf) == Taken::Datagram(bytes.as_slice().len()))
+}
+
+/// Whether nothing comes over a link.
+fn is_quiet(link: &mut UdpLink) -> bool {
+    link.take(&mut [0; MAX_LEN]) == Taken::Quiet
+}
+
+/// Whether a write and its reply are carried and nothing after them, and whether a packet to a node with no address is lost.
+fn talked(rt: &HostRuntime) -> Result<[bool; 4], Fail> {
+    let [mut client, mut switch, mut replica] = links(rt)?;
+    let put = is_carried(&mut switch, &mut replica, &put()?)?;
+    let reply = is_carried(&mut replica, &mut client, &reply())?;
+    let no_more = is_quiet(&mut client);
+    replica.send(Node::Config, b"lost")?;
+    Ok([put, reply, no_more, is_quiet(&mut switch)])
+}
+
 #[test]
 fn talks_over_sockets(rt: HostRuntime) -> Result<(), Fail> {
-    let alloc = rt.alloc();
-    let (client, client_address) = socket(&rt)?;
-    let (switch, switch_address) = socket(&rt)?;
-    let (replica, replica_address) = socket(&rt)?;
-    let mut nodes = Vec::new(alloc);
-    nodes.push((Node::Client(7), client_address))?;
-    nodes.push((Node::Switch(1), switch_address))?;
-    nodes.push((Node::Replica(0), replica_address))?;
-    let mut client = UdpLink::new(client, nodes.clone()?);
-    let mut switch = UdpLink::new(switch, nodes.clone()?);
-    let mut replica = UdpLink::new(replica, nodes);
-    let mut buf = [0; MAX_LEN];
-    let put = put()?;
-    switch.send(put.dst, spelled(&put).as_slice())?;
-    assert_eq!(rt;
-        replica.take(&mut buf),
-        Taken::Datagram(spelled(&put).as_slice().len())
-    );
-    let reply = reply();
-    replica.send(reply.dst, spelled(&reply).as_slice())?;
-    assert_eq!(rt;
-        client.take(&mut buf),
-        Taken::Datagram(spelled(&reply).as_slice().len())
-    );
-    assert_eq!(rt; client.take(&mut buf), Taken::Quiet);
-    replica.send(Node::Config, b"lost")?;
-    assert_eq!(rt; switch.take(&mut buf), Taken::Quiet);
+    assert_eq!(rt; talked(&rt)?, [true; 4]);
     Ok(())
 }

@@ -4,6 +4,8 @@
 #[cfg(test)]
 mod daemon;
 #[cfg(test)]
+mod desk;
+#[cfg(test)]
 mod shared;
 #[cfg(test)]
 mod worker;

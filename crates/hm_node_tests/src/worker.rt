@@ -1,48 +1,56 @@
-use crate::daemon::words;
+use crate::daemon::{spelled, words};
 use crate::shared::{TEXT, book, done, read, write};
-use hm_codec::buf::{Buf, MAX_LEN};
-use hm_codec::encode::encode;
+use hm_codec::buf::Buf;
 use hm_daemon::node::run_node;
 use hm_daemon::status::NodeStatus;
 use hm_frame::datagram::Item;
 use hm_frame::memory_link::MemoryLink;
+use hm_outside::device::NotPut;
 use hm_outside::memory::MemorySink;
-use hm_packet::packet::Packet;
 use hm_worker::worker::Worker;
 use hm_worker::worker_end::WorkerEnd;
 use std::alloc::Global;
+use std::sync::Wait;
 use std::test::Fail;
-
-fn datagram(packet: &Packet) -> Item {
-    let mut bytes: Buf<MAX_LEN> = Buf::new();
-    encode(packet, &mut bytes);
-    Item::Datagram(bytes)
-}
+use std::thread::Threads;
 
 /// A worker to which a write, its completion and a read come, between them a waiting time and a datagram that is no packet, and whose
 /// link fails at this call.
 fn worker(alloc: Global, fails: u64) -> Result<Worker<MemoryLink>, Fail> {
-    let mut coming = Vec::new(alloc);
-    coming.push(datagram(&write()?))?;
-    coming.push(Item::Quiet)?;
-    coming.push(datagram(&done()))?;
-    coming.push(Item::Datagram(Buf::from_slice(b"no packet").ok_or("bytes")?))?;
-    coming.push(datagram(&read()))?;
-    let fails = vec![in alloc; fails]?;
-    let link = MemoryLink::open(alloc, coming, 8, fails).map_err(|_| "memory")?;
+    let coming = vec![in alloc;
+        Item::Datagram(spelled(&write()?)),
+        Item::Quiet,
+        Item::Datagram(spelled(&done())),
+        Item::Datagram(Buf::from_slice(b"no packet").ok_or("bytes")?),
+        Item::Datagram(spelled(&read())),
+    ]?;
+    let link = MemoryLink::open(alloc, coming, 8, vec![in alloc; fails]?)?;
     Ok(Worker::new(link))
+}
+
+/// How a worker ends whose link fails at this call, over a book of this life and for so many turns, how many packets it took, and how
+/// many it sent.
+fn ended(alloc: Global, fails: u64, life: u32, turns: u64) -> Result<(WorkerEnd, u64, u64), Fail> {
+    let mut book = book(alloc, life)?;
+    let mut worker = worker(alloc, fails)?;
+    worker.work(&mut book, turns);
+    Ok((worker.end, worker.took, worker.sent))
+}
+
+/// How many packets a worker sends, and how the journal of its turns is written, and what the sink has then.
+fn worked(alloc: Global) -> Result<(usize, Result<(), NotPut>, MemorySink), Fail> {
+    let mut book = book(alloc, 16)?;
+    let mut worker = worker(alloc, 100)?;
+    worker.work(&mut book, 100);
+    let mut sink = MemorySink::open(alloc, 1000, Vec::new(alloc))?;
+    let written = book.write_journal(alloc, &mut sink);
+    Ok((worker.link.sent().len(), written, sink))
 }
 
 #[test]
 fn makes_each_packet_a_turn(rt: HostRuntime) -> Result<(), Fail> {
-    let mut book = book(rt.alloc(), 16)?;
-    let mut worker = worker(rt.alloc(), 100)?;
-    worker.work(&mut book, 100);
-    assert_eq!(rt; worker.end, WorkerEnd::Ended);
-    assert_eq!(rt; (worker.took, worker.sent), (3, 3));
-    assert_eq!(rt; worker.link.sent().len(), 3);
-    let mut sink = MemorySink::open(rt.alloc(), 1000, Vec::new(rt.alloc())).map_err(|_| "memory")?;
-    assert_eq!(rt; book.write_journal(rt.alloc(), &mut sink), Ok(()));
+    let (sent, written, sink) = worked(rt.alloc())?;
+    assert_eq!(rt; (sent, written), (3, Ok(())));
     assert!(rt; sink.as_slice() == TEXT);
     Ok(())
 }
@@ -50,29 +58,39 @@ fn makes_each_packet_a_turn(rt: HostRuntime) -> Result<(), Fail> {
 #[test]
 fn ends_where_a_call_fails(rt: HostRuntime) -> Result<(), Fail> {
     // The first call takes the write, the second sends it, the third waits, and the fifth sends the reply.
-    for (fails, took, sent) in [(1, 0, 0), (2, 1, 0), (3, 1, 1), (5, 2, 1)] {
-        let mut book = book(rt.alloc(), 16)?;
-        let mut worker = worker(rt.alloc(), fails)?;
-        worker.work(&mut book, 100);
-        assert_eq!(rt; worker.end, WorkerEnd::LinkFault);
-        assert_eq!(rt; (worker.took, worker.sent), (took, sent));
+    for (call, took, sent) in [(1, 0, 0), (2, 1, 0), (3, 1, 1), (5, 2, 1)] {
+        let end = ended(rt.alloc(), call, 16, 100)?;
+        assert_eq!(rt; end, (WorkerEnd::LinkFault, took, sent));
     }
     Ok(())
 }
 
 #[test]
 fn ends_at_its_turns_and_at_the_end_of_the_life(rt: HostRuntime) -> Result<(), Fail> {
-    let mut book_of_two = book(rt.alloc(), 2)?;
-    let mut spent = worker(rt.alloc(), 100)?;
-    spent.work(&mut book_of_two, 100);
-    assert_eq!(rt; spent.end, WorkerEnd::SwitchSpent);
-    assert_eq!(rt; (spent.took, spent.sent), (2, 2));
-    let mut book = book(rt.alloc(), 16)?;
-    let mut worker = worker(rt.alloc(), 100)?;
-    worker.work(&mut book, 3);
-    assert_eq!(rt; worker.end, WorkerEnd::TurnsSpent);
-    assert_eq!(rt; (worker.took, worker.sent), (2, 2));
+    for (life, turns, end) in [
+        (16, 100, (WorkerEnd::Ended, 3, 3)),
+        (2, 100, (WorkerEnd::SwitchSpent, 2, 2)),
+        (16, 3, (WorkerEnd::TurnsSpent, 2, 2)),
+    ] {
+        assert_eq!(rt; ended(rt.alloc(), 100, life, turns)?, end);
+    }
     Ok(())
+}
+
+/// How a switch of these words ends over one worker and a sink whose calls with these numbers fail, what it wrote, and how many packets
+/// its worker took and sent.
+fn ran<R: Threads + Wait + Sync>(
+    rt: &R,
+    alloc: Global,
+    line: &str,
+    fails: &[u64],
+) -> Result<(NodeStatus, MemorySink, (u64, usize)), Fail> {
+    let words = words(alloc, line)?;
+    let mut workers = [worker(alloc, 100)?];
+    let mut sink = MemorySink::open(alloc, 1000, fails.to_vec(alloc)?)?;
+    let status = run_node(rt, alloc, &words, &mut workers, &mut sink);
+    let counts = (workers[0].took, workers[0].link.sent().len());
+    Ok((status, sink, counts))
 }
 
 #[test]
@@ -81,46 +99,26 @@ fn runs_a_switch(rt: HostRuntime) -> Result<(), Fail> {
         ("switch 1 1 3 10 16 100 chain 1", NodeStatus::Done),
         ("switch 1 1 3 10 16 5 chain 1", NodeStatus::TurnsSpent),
     ] {
-        let words = words(rt.alloc(), line)?;
-        let mut workers = [worker(rt.alloc(), 100)?];
-        let mut sink = MemorySink::open(rt.alloc(), 1000, Vec::new(rt.alloc())).map_err(
-            |_| "memory",
-        )?;
-        assert_eq!(rt;
-            run_node(&rt, rt.alloc(), &words, &mut workers, &mut sink),
-            status,
-            "{line}"
-        );
-        assert!(rt; sink.as_slice() == TEXT, "{line}");
-        assert_eq!(rt; (workers[0].took, workers[0].sent), (3, 3), "{line}");
+        let (ended, sink, counts) = ran(&rt, rt.alloc(), line, &[])?;
+        assert_eq!(rt; ended, status, "{line}");
+        assert!(rt; sink.as_slice() == TEXT);
+        assert_eq!(rt; counts, (3, 3));
     }
     Ok(())
 }
 
 #[test]
 fn runs_no_switch_of_two_workers(rt: HostRuntime) -> Result<(), Fail> {
-    let words = words(rt.alloc(), "switch 1 2 3 10 16 100 chain 1")?;
-    let mut workers = [worker(rt.alloc(), 100)?];
-    let mut sink = MemorySink::open(rt.alloc(), 1000, Vec::new(rt.alloc())).map_err(|_| "memory")?;
-    assert_eq!(rt;
-        run_node(&rt, rt.alloc(), &words, &mut workers, &mut sink),
-        NodeStatus::BadWords
-    );
+    let (ended, sink, counts) = ran(&rt, rt.alloc(), "switch 1 2 3 10 16 100 chain 1", &[])?;
+    assert_eq!(rt; ended, NodeStatus::BadWords);
     assert_eq!(rt; sink.as_slice().len(), 0);
-    assert_eq!(rt; workers[0].link.sent().len(), 0);
+    assert_eq!(rt; counts, (0, 0));
     Ok(())
 }
 
 #[test]
 fn runs_a_switch_whose_sink_fails(rt: HostRuntime) -> Result<(), Fail> {
-    let words = words(rt.alloc(), "switch 1 1 3 10 16 100 chain 1")?;
-    let mut workers = [worker(rt.alloc(), 100)?];
-    let mut sink = MemorySink::open(rt.alloc(), 1000, vec![in rt.alloc(); 1]?).map_err(
-        |_| "memory",
-    )?;
-    assert_eq!(rt;
-        run_node(&rt, rt.alloc(), &words, &mut workers, &mut sink),
-        NodeStatus::WriteFault
-    );
+    let (ended, _, _) = ran(&rt, rt.alloc(), "switch 1 1 3 10 16 100 chain 1", &[1])?;
+    assert_eq!(rt; ended, NodeStatus::WriteFault);
     Ok(())
 }

@@ -223,8 +223,3 @@ turn_lost old new switch told seat packet setup history h lt steps e =
     let room = has_room old setup history packet h lt in
     let step = stepped old.switch switch told.turn s packet h.switch h.slots (steps s.switch h.switch) in
     absurd (room.unspent (sym step.answer ∙ no_record seat packet told.turn e))
-
--- ---- the opening
-
-pub holds_none : (book : BookState) (setup : SwitchSetup) → book.records ≡ [] → StandsFor book.switch (opens setup).switch → slots_of book.switch.dirty ≡ (opens setup).slots → book.life ≡ setup.life → Holds book setup []
-holds_none book setup none stands slots life = record { legal = tt; journal = ap (λ (l : List Record). map (λ (x : Record). Some x) l) (sym none); switch = stands; slots = slots; life = life }

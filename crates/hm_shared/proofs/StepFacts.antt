@@ -9,12 +9,11 @@ use Rattle.hm_base.specs.declared.why.Why.{Why}
 use Rattle.hm_base.specs.declared.why.Why.TheVariants as why
 use Rattle.hm_packet.specs.declared.body.Body.{Body}
 use Rattle.hm_packet.specs.declared.body.Body.TheVariants as body
-use Rattle.hm_packet.specs.declared.body.Done.{Done}
 use Rattle.hm_packet.specs.declared.turn.Turn.{Turn}
 use Rattle.hm_packet.specs.declared.turn.Turn.TheVariants as turn
 use Rattle.hm_packet.specs.Messages.{Message}
 use Rattle.hm_rules.specs.Senders.{same_node, number, may_send}
-use Rattle.hm_rules.specs.Switch.{AbstractSwitch, Turned, is_active, is_dirty, may_refuse, switch_takes, ignoring, answers_done, on_body, on_packet, switch_step}
+use Rattle.hm_rules.specs.Switch.{AbstractSwitch, Turned, is_active, is_dirty, may_refuse, switch_takes, ignoring, on_body, on_packet, switch_step}
 use Rattle.hm_shared.specs.declared.journal.Turned1.{Turned1}
 use Rattle.hm_shared.specs.Journal.{call_of, kept_answer}
 use Rattle.hm_shared.specs.JournalText.{answer_words}
@@ -43,9 +42,6 @@ own_node node.Config id e = absurd (false≢true e)
 
 fits_ignored : (s : AbstractSwitch) (src dst : Node) (b : Body) (reason : Why) → Fits s src dst b (ignoring s reason)
 fits_ignored s src dst b reason = record { handled = refl; life = refl; unspent = refl; told = λ seat. refl }
-
-fits_done : (s : AbstractSwitch) (src : Node) (done : Done) (point : ℕ) → Fits s src (node.Switch s.id) (body.Done done) (answers_done (record s { point = point }) done)
-fits_done s src done point = record { handled = refl; life = refl; unspent = refl; told = λ seat. refl }
 
 fits_body : (refuse : Bool) (s : AbstractSwitch) (src : Node) (b : Body) → Fits s src (node.Switch s.id) b (on_body refuse s (number src) b)
 fits_body refuse s src (body.Read read) =

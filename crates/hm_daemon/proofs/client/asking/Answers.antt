@@ -1,18 +1,18 @@
-use Rattle.std.proofs.Common.{◌≡◌, List, ℕ, length, refl, sym, ap, subst, ◌∙◌, arith, rules}
+use Rattle.std.proofs.Common.{◌≡◌, List, ℕ, length, refl, sym, ap, subst, ◌∙◌, inl, inr, arith, rules}
 use Rattle.std.specs.Io.KnownBytes.{Appends}
 use Rattle.hm_base.specs.Lists.{IsPrefix}
 use Rattle.hm_frame.specs.Links.{max_datagram_len}
 use Rattle.hm_frame.specs.declared.datagram.Item.TheVariants as item
 use Rattle.hm_outside.specs.Faults.{one_more}
 use Rattle.hm_daemon.specs.Asking.{reply_line}
-use Rattle.hm_daemon.proofs.AskLemmas.{asked_start, asked_more, asked_again, cut_start, cut_again, cut_take, replied, unput_along, put_along, request_post, none_if}
+use Rattle.hm_daemon.proofs.AskLemmas.{asked_start, asked_more, asked_again, cut_start, cut_again, not_heard, replied, unput_along, put_along, request_post, none_if}
 use Rattle.hm_daemon.proofs.ServeLemmas.{datagram_heard}
 use Rattle.hm_daemon.proofs.client.asking.Goals as goal
 use Rattle.hm_daemon.proofs.client.asking.Goals.{in-Datagram+in_default, in-Quiet+in-Ok-send}
 
 pub returns-in-Err : goal.returns-in-Err
 returns-in-Err g c = (
-  cut_start c.link_calls_add_up.ensures _ _ _ _ _ _ _ c.in-Err.ensures.untaken c.in-Err.ensures.sent c.in-Err.ensures.counted,
+  inr (cut_start c.link_calls_add_up.ensures _ _ _ _ _ _ _ c.in-Err.ensures.untaken c.in-Err.ensures.sent c.in-Err.ensures.counted),
   unput_along g.K.Sink.held g.K.Sink.faults _ _ refl,
 )
 
@@ -63,14 +63,14 @@ returns-in-Err-put_reply g c =
 
 pub returns-in-Err-send : goal.returns-in-Err-send
 returns-in-Err-send g c = (
-  cut_again c.link_calls_add_up.ensures _ _ _ _ _ _ _ _ _ _ _ _ _ _ c.loop.invariant.asked c.in-Quiet.ensures.next c.in-Quiet.ensures.unsent c.in-Err-send.ensures.untaken c.in-Err-send.ensures.sent (omega arith)
-      (c.in-Err-send.ensures.counted ∙ ap one_more (c.in-Quiet.ensures.counted ∙ c.loop.invariant.sound)),
+  inr (cut_again c.link_calls_add_up.ensures _ _ _ _ _ _ _ _ _ _ _ _ _ _ c.loop.invariant.asked c.in-Quiet.ensures.next c.in-Quiet.ensures.unsent c.in-Err-send.ensures.untaken c.in-Err-send.ensures.sent (omega arith)
+      (c.in-Err-send.ensures.counted ∙ ap one_more (c.in-Quiet.ensures.counted ∙ c.loop.invariant.sound))),
   unput_along g.K.Sink.held g.K.Sink.faults _ _ c.loop.invariant.unput,
 )
 
 pub returns-in-Failed : goal.returns-in-Failed
 returns-in-Failed g c = (
-  cut_take c.link_calls_add_up.ensures _ _ _ _ _ _ _ _ _ _ _ _ c.loop.invariant.asked c.in-Failed.ensures.next c.in-Failed.ensures.unsent (omega arith) (c.in-Failed.ensures.counted ∙ ap one_more c.loop.invariant.sound),
+  inl (not_heard c.link_calls_add_up.ensures _ _ _ _ _ _ _ _ _ _ _ _ c.loop.invariant.asked c.in-Failed.ensures.next c.in-Failed.ensures.unsent (omega arith) (c.in-Failed.ensures.counted ∙ ap one_more c.loop.invariant.sound)),
   unput_along g.K.Sink.held g.K.Sink.faults _ _ c.loop.invariant.unput,
 )
 

@@ -1,4 +1,4 @@
-use Rattle.hm_daemon.specs.Serving.{Heard}
+use Rattle.hm_worker.specs.Heard.{Heard}
 use Rattle.hm_daemon.proofs.client.reply_in.Goals as goal
 
 pub returns-in-Ok : goal.returns-in-Ok

@@ -1,7 +1,8 @@
 use Rattle.std.proofs.Common.{◌≡◌, subst}
 use Rattle.hm_rules.specs.Deliveries.{replica_step}
 use Rattle.hm_daemon.specs.Member.{kind_in, replica_in}
-use Rattle.hm_daemon.specs.Serving.{Heard, Serving, hears}
+use Rattle.hm_worker.specs.Heard.{Heard}
+use Rattle.hm_daemon.specs.Serving.{Serving, hears}
 use Rattle.hm_daemon.proofs.ServeLemmas.{heard_step}
 use Rattle.hm_daemon.proofs.server.Server.on_datagram.Goals as goal
 

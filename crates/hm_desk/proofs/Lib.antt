@@ -1,0 +1,4 @@
+mod Moves
+mod Takes
+mod Desks
+mod Served

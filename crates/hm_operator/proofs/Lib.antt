@@ -1,0 +1,5 @@
+mod Words
+mod Replicas
+mod Lawful
+mod Fields
+mod Reasons
