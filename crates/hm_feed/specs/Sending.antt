@@ -1,5 +1,5 @@
 -- What contracts see of a sender of pages.
-use Rattle.std.specs.Prelude.{ℕ, Bool, false, not, ◌==◌, nat_le, nat_lt, if◌then◌else◌, List, map, filter, count_by, slice_index, slice_set, replicate, Option, Some, None}
+use Rattle.std.specs.Prelude.{ℕ, not, ◌==◌, nat_lt, if◌then◌else◌, List, map, filter, slice_index, slice_set, replicate, Option, Some, None}
 use Rattle.hm_base.specs.declared.entry.Entry.{Entry}
 use Rattle.hm_base.specs.Logs.{page}
 use Rattle.hm_packet.specs.declared.body.Feed.{Feed}
@@ -33,24 +33,6 @@ page_to s log commit replica =
 -- what the members but this one acknowledged
 abbrev pub others_acked : Sending → ℕ → List ℕ → List ℕ
 others_acked s me members = map (acked_by s) (filter (λ m. not (m == me)) members)
-
--- what a member acknowledged, where it is another
-abbrev pub other_acked : Sending → ℕ → Option ℕ → Option ℕ
-other_acked s me None = None
-other_acked s me (Some m) = if m == me then None else Some (acked_by s m)
-
-abbrev pub reaches : ℕ → Option ℕ → Bool
-reaches len None = false
-reaches len (Some acked) = nat_le len acked
-
--- how many of these lengths reach this one
-abbrev pub count_reaching : ℕ → List ℕ → ℕ
-count_reaching len lengths = count_by (λ l. nat_le len l) lengths
-
--- the length, where so many of the lengths reach it
-abbrev pub supported : ℕ → List ℕ → Option ℕ → Option ℕ
-supported k lengths None = None
-supported k lengths (Some len) = if nat_le k (count_reaching len lengths) then Some len else None
 
 -- a length, where it is above a floor
 abbrev pub above : ℕ → ℕ → Option ℕ

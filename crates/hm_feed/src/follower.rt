@@ -118,8 +118,9 @@ pub fn take(shim: &mut Shim, feed: &Feed) -> Took
     }
 }
 
-/// Takes a page into the list that is staged behind the applied prefix.
-fn stage(staged: &mut Staged, shim: &mut Shim, feed: &Feed) -> Took
+/// Takes a page where a list is staged behind the applied prefix: its entries past the end come behind the list, and both become
+/// the log once they reach the start of the view. Gap and LogFull as where a follower takes it; both change nothing.
+pub fn stage(staged: &mut Staged, shim: &mut Shim, feed: &Feed) -> Took
     requires caps { staged.old.cap ≡ shim.old.cap }
     requires room { shim.old.applied + length staged.old.entries ≤ shim.old.cap }
     ensures log { shim.new ≡ record shim.old { entries = (answers.taken shim.old (Some (applied_entries shim.old ++ staged.old.entries)) feed.now).log } }

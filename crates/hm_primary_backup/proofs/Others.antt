@@ -1,6 +1,6 @@
 -- The members of a group beside one of them.
-use Rattle.std.proofs.Common.{◌≡◌, ℕ, zero, suc, ◌-◌, ◌<◌, ◌≤◌, Bool, true, false, List, length, get_or, refl, sym, ap, ◌∙◌, arith}
-use Rattle.std.specs.Prelude.{All, filter, not, ◌&&◌, ◌==◌, nat_le, slice_index}
+use Rattle.std.proofs.Common.{◌≡◌, ℕ, zero, suc, ◌+◌, ◌-◌, ◌<◌, ◌≤◌, Bool, true, false, List, [], ◌∷◌, length, get_or, refl, sym, ap, ◌∙◌, arith}
+use Rattle.std.specs.Prelude.{All, filter, not, ◌&&◌, ◌==◌, nat_le, slice_index, if◌then◌else◌}
 use Rattle.std.specs.Bool.{Decides}
 use Rattle.std.specs.List.{list_all, list_any}
 use Rattle.std.specs.List.Sorted.{IsStrictlyIncreasing}
@@ -28,6 +28,23 @@ few_members xs lawful =
     let last : length xs - 1 ≤ get_or xs (length xs - 1) 0 = climbs xs lawful.rising (length xs - 1) (omega (arith, some)) in
     let within : get_or xs (length xs - 1) 0 ≤ 6 = All-get_or (λ m. m ≤ 6) xs (length xs - 1) 0 (omega (arith, some)) lawful.below in
     omega (arith, some, last, within)
+
+all_kept : (p : ℕ → Bool) (xs : List ℕ) → All (λ m. p m ≡ true) xs → length (filter p xs) ≡ length xs
+all_kept p [] all = refl
+all_kept p (x ∷ xs) all =
+    let first : length (filter p (x ∷ xs)) ≡ length (x ∷ filter p xs) = ap (λ (b : Bool). length (if b then x ∷ filter p xs else filter p xs)) (all 0 0 (omega arith)) in
+    let rest : length (filter p xs) ≡ length xs = all_kept p xs (λ k d less. all (suc k) d (omega (arith, less))) in
+    omega (arith, first, rest)
+
+-- the others, where this is the first member
+pub behind_first : (me : ℕ) (xs : List ℕ) → IsMembers xs → slice_index xs 0 ≡ me → length (filter (λ m. not (m == me)) xs) + 1 ≡ length xs
+behind_first me [] lawful first = absurd (let some : 0 < 0 = lawful.some in omega (arith, some))
+behind_first me (x ∷ xs) lawful first =
+    let passed : length (filter (λ m. not (m == me)) (x ∷ xs)) ≡ length (filter (λ m. not (m == me)) xs) =
+    ap (λ (b : Bool). length (if b then x ∷ filter (λ m. not (m == me)) xs else filter (λ m. not (m == me)) xs)) (ap not (eq-eqb x me first)) in
+    let rest : length (filter (λ m. not (m == me)) xs) ≡ length xs = all_kept (λ m. not (m == me)) xs
+    (λ k d less. ap not (ne_eqb (get_or xs k d) me (λ same. let above : x < get_or xs k d = AllPairs-from_increasing (x ∷ xs) lawful.rising 0 (suc k) d (omega arith) (omega (arith, less)) in omega (arith, above, same, first)))) in
+    omega (arith, passed, rest)
 
 -- one that passes the filter and fails the test
 fails_at : (p q : ℕ → Bool) (xs : List ℕ) (i : ℕ) → i < length xs → q (get_or xs i 0) ≡ true → p (get_or xs i 0) ≡ false → list_all p (filter q xs) ≡ false

@@ -1,5 +1,4 @@
 //! Primary-backup: the first member of the epoch is the primary, and what every other member holds is committed.
 #![tactic(auto)]
 
-mod count;
 pub mod primary;

@@ -9,7 +9,6 @@ ghost use Rattle.hm_rules.specs.Replica.{opened, others, acked_by, held_len};
 ghost use Rattle.hm_rules.specs.ReplicaSteps as steps;
 ghost use Rattle.hm_store.specs.Log.{max_log_len};
 
-use crate::count::count_others;
 use hm_base::members::Members;
 use hm_base::memory::NoMemory;
 use hm_base::node::Node;
@@ -411,7 +410,8 @@ impl Primary {
         ensures value { result ≡ above known (steps.quorum_len self.now (length (others self.now))) }
         ensures within { IfSome result (λ len. len ≤ length self.now.log) }
     {
-        let count = count_others(&self.members, self.me);
+        // the primary is the first of the members
+        let count = self.members.len() as u8 - 1;
         if count > 0 {
             return self.sender.held_above(&self.members, self.me, count, known);
         }

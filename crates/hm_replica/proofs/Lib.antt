@@ -1,2 +1,1 @@
-mod Anys
 mod Refused

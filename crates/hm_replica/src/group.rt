@@ -29,10 +29,5 @@ pub fn last_member(members: &Members) -> u8
 pub fn is_member(members: &Members, me: u8) -> bool
     ensures { result ≡ list_any (λ m. m == me) members.now }
 {
-    for i in 0..members.len() {
-        if members.get(i) == Some(me) {
-            return true;
-        }
-    }
-    false
+    members.as_slice().iter().any(|member| *member == me)
 }

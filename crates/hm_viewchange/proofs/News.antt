@@ -1,9 +1,8 @@
 -- News of a view that isn't earlier than the own one: what follows is the rules' step, whatever was acknowledged, and what it leaves.
-use Rattle.std.proofs.Common.{◌≡◌, ◌⊎◌, ℕ, ◌%◌, ◌<◌, ◌≤◌, Bool, true, false, List, [], Option, Some, None, refl, sym, ap, subst, ◌∙◌, arith, inl, inr}
+use Rattle.std.proofs.Common.{◌≡◌, ◌⊎◌, ℕ, ◌%◌, ◌<◌, ◌≤◌, Bool, true, false, List, [], Some, None, refl, sym, ap, subst, ◌∙◌, arith, inl, inr}
 use Rattle.std.specs.Prelude.{not, nat_lt, if◌then◌else◌, length, is_some}
 use Rattle.std.proofs.lemmas.Bool.{cases_Bool, cases_lt, false≢true}
 use Rattle.std.proofs.lemmas.Option.{none-some}
-use Rattle.hm_base.specs.declared.entry.Entry.{Entry}
 use Rattle.hm_base.specs.declared.why.Why.TheVariants as why
 use Rattle.hm_codec.specs.declared.acted.Acted.{Acted}
 use Rattle.hm_packet.specs.declared.acted.Did.{Did}
@@ -23,7 +22,7 @@ use Rattle.hm_viewchange.specs.Standing.{status_of, Fits, Stays, Leaves, IsStep}
 use Rattle.hm_viewchange.proofs.Votings.{length_numbers}
 use Rattle.hm_viewchange.proofs.Alike.{dressed, dress, kept_after, lifted, IsNote, equal_alike, later_alike}
 use Rattle.hm_viewchange.proofs.Entering.{Alone, IsBegun, entered_only, later_start, later_vote, alone_first, alone_start, alone_vote}
-use Rattle.hm_viewchange.proofs.Steps.{is_staging, Goes, checks_goes}
+use Rattle.hm_viewchange.proofs.Steps.{Goes, checks_goes}
 
 -- ---- the group
 
@@ -47,7 +46,6 @@ grouped core change fits = elim (odd_sizes core.size fits.odd) [
 
 pub record Ends (s : Stepped) : Type 0 where
   pub done : s.did ≡ did.Done
-  pub staging : is_staging s.replica.status ≡ false
   pub few : s.replica.status ≡ Status.Normal → length s.outs ≤ 1
 
 abbrev is_normal : Status → Bool
@@ -60,18 +58,17 @@ change_normal : (now : Status) → now ≡ Status.Change → now ≡ Status.Norm
 change_normal now change normal = false≢true (sym (ap is_normal change) ∙ ap is_normal normal)
 
 pub begun_ends : (s : Stepped) → IsBegun s → Ends s
-begun_ends s b = subst Ends (sym b.1) (record { done = refl; staging = refl; few = λ _. omega arith })
+begun_ends s b = subst Ends (sym b.1) (record { done = refl; few = λ _. omega arith })
 
 enters_done : (r : Replica) (view : ℕ) → (rules.enters view r).did ≡ did.Done
-enters_done r view = (checks_goes (rules.entered view r) refl).done
+enters_done r view = (checks_goes (rules.entered view r)).done
 
 pub enters_ends : (r : Replica) (view : ℕ) → Grouped r → Ends (rules.enters view r)
 enters_ends r view (inl some) = record {
   done = enters_done r view;
-  staging = (checks_goes (rules.entered view r) refl).staging;
   few = λ normal. absurd (change_normal _ (entered_only r view some) normal);
 }
-enters_ends r view (inr a) = subst Ends (sym (alone_first r view a)) (record { done = refl; staging = refl; few = λ _. omega arith })
+enters_ends r view (inr a) = subst Ends (sym (alone_first r view a)) (record { done = refl; few = λ _. omega arith })
 
 -- what each kind of news leads to where the view is a later one
 pub record Leads (notes : Replica → Replica) (view : ℕ) (r : Replica) : Type 0 where
@@ -81,8 +78,8 @@ pub record Leads (notes : Replica → Replica) (view : ℕ) (r : Replica) : Type
 
 later_ends : (notes : Replica → Replica) (view : ℕ) (r : Replica) → Leads notes view r → Grouped r → Ends (rules.then_checks (rules.enters view r) notes)
 later_ends notes view r l (inl some) =
-    let goes : Goes (rules.checks (notes (rules.enters view r).replica)) = checks_goes (notes (rules.enters view r).replica) (ap is_staging (l.note.status (rules.enters view r).replica ∙ entered_only r view some)) in
-    record { done = goes.done; staging = goes.staging; few = λ normal. absurd (change_normal _ (l.many some) normal) }
+    let goes : Goes (rules.checks (notes (rules.enters view r).replica)) = checks_goes (notes (rules.enters view r).replica) in
+    record { done = goes.done; few = λ normal. absurd (change_normal _ (l.many some) normal) }
 later_ends notes view r l (inr a) = begun_ends _ (l.alone a)
 
 later_same : (notes : Replica → Replica) (view : ℕ) (r : Replica) (acked : List ℕ) → Leads notes view r → Grouped r
@@ -107,26 +104,20 @@ changes : (view : ℕ) (known : Bool) (r : Replica) → nat_lt r.view view ≡ f
 changes view known r earlier is =
     was_change (votes.is_change r.status) known (sym (ap (λ (b : Bool). if b then None else if not (votes.is_change r.status) then Some why.Status else if known then Some why.Repeat else None) earlier) ∙ is)
 
-staging_change : (now : Status) → votes.is_change now ≡ true → is_staging now ≡ false
-staging_change Status.Normal is = refl
-staging_change Status.Change is = refl
-staging_change Status.Pulling is = refl
-staging_change Status.Staging is = absurd (false≢true is)
-
-noted_ends : (notes : Replica → Replica) (view : ℕ) (known : Bool) (r : Replica) → Leads notes view r → Grouped r → stale view known r ≡ None → Ends (noted view notes r)
-noted_ends notes view known r l g is = elim (cases_Bool (nat_lt r.view view)) [
+noted_ends : (notes : Replica → Replica) (view : ℕ) (r : Replica) → Leads notes view r → Grouped r → Ends (noted view notes r)
+noted_ends notes view r l g = elim (cases_Bool (nat_lt r.view view)) [
   | inl later ↦ subst (λ (b : Bool). Ends (rules.then_checks (if b then rules.enters view r else sends r []) notes)) (sym later) (later_ends notes view r l g)
   | inr earlier ↦
-      let goes : Goes (rules.checks (notes r)) = checks_goes (notes r) (ap is_staging (l.note.status r) ∙ staging_change r.status (changes view known r earlier is)) in
-      subst (λ (b : Bool). Ends (rules.then_checks (if b then rules.enters view r else sends r []) notes)) (sym earlier) (record { done = goes.done; staging = goes.staging; few = λ _. goes.few })
+      let goes : Goes (rules.checks (notes r)) = checks_goes (notes r) in
+      subst (λ (b : Bool). Ends (rules.then_checks (if b then rules.enters view r else sends r []) notes)) (sym earlier) (record { done = goes.done; few = λ _. goes.few })
 ]
 
-noted_alike : (notes : Replica → Replica) (view : ℕ) (known : Bool) (r : Replica) → Leads notes view r → Grouped r → stale view known r ≡ None → (acked : List ℕ) (fed : Option (List Entry)) → noted view notes (dressed acked fed r) ≡ dress acked fed (noted view notes r)
-noted_alike notes view known r l g is acked fed =
-    let P : Bool → Type 0 = λ b. rules.then_checks (if b then rules.enters view (dressed acked fed r) else sends (dressed acked fed r) []) notes ≡ dress acked fed (rules.then_checks (if b then rules.enters view r else sends r []) notes) in
+noted_alike : (notes : Replica → Replica) (view : ℕ) (known : Bool) (r : Replica) → Leads notes view r → Grouped r → stale view known r ≡ None → (acked : List ℕ) → noted view notes (dressed acked r) ≡ dress acked (noted view notes r)
+noted_alike notes view known r l g is acked =
+    let P : Bool → Type 0 = λ b. rules.then_checks (if b then rules.enters view (dressed acked r) else sends (dressed acked r) []) notes ≡ dress acked (rules.then_checks (if b then rules.enters view r else sends r []) notes) in
     elim (cases_Bool (nat_lt r.view view)) [
-      | inl later ↦ subst P (sym later) (later_alike notes l.note acked fed r view (enters_done r view) (later_same notes view r acked l g))
-      | inr earlier ↦ subst P (sym earlier) (equal_alike notes l.note acked fed r (changes view known r earlier is))
+      | inl later ↦ subst P (sym later) (later_alike notes l.note acked r view (enters_done r view) (later_same notes view r acked l g))
+      | inr earlier ↦ subst P (sym earlier) (equal_alike notes l.note acked r (changes view known r earlier is))
     ]
 
 heard_go : (r : Replica) (view : ℕ) (notes : Replica → Replica) (later now known : Bool) → (if later then None else if not now then Some why.Status else if known then Some why.Repeat else None) ≡ None
@@ -166,20 +157,19 @@ leaves_of old before new after acted s stays step ends =
       stays = stays;
       core = λ reason is. absurd (false≢true (sym (ap is_done is) ∙ ap is_done done));
       change = λ reason is. absurd (false≢true (sym (ap is_done is) ∙ ap is_done done));
-      staging = λ _ is. false≢true (sym (ap is_staging now ∙ ends.staging) ∙ ap (λ x. is_staging (status_of x)) is);
       few = λ is. let few : length s.outs ≤ 1 = ends.few (sym now ∙ ap status_of is) in omega (arith, few, ap (λ (x : Stepped). length x.outs) step);
     }
 
 pub start_leads : (r : Replica) (from view : ℕ) → Leads (votes.with_heard from) view r
 start_leads r from view = record {
-  note = record { alike = λ _ _ _. refl; status = λ _. refl };
+  note = record { alike = λ _ _. refl; status = λ _. refl };
   many = later_start r view from;
   alone = alone_start r view from;
 }
 
 pub vote_leads : (r : Replica) (from view : ℕ) (vote : Vote) → (Alone r → from ≡ 0) → Leads (votes.with_vote from vote) view r
 vote_leads r from view vote first = record {
-  note = record { alike = λ _ _ _. refl; status = λ _. refl };
+  note = record { alike = λ _ _. refl; status = λ _. refl };
   many = later_vote r view from vote;
   alone = λ a. alone_vote r view from vote a (first a);
 }
@@ -192,18 +182,17 @@ pub start_step : (old : VrCore) (before : Changing) (new : VrCore) (after : Chan
 start_step old before new after acted from start fits now member is step =
     let r : Replica = stands old before in
     lifted old before new after acted (λ q. rules.on_start q from start)
-    (λ acked fed.
-    started (dressed acked fed r) from start now member is
-    ∙ noted_alike (votes.with_heard from) start.view (votes.was_heard r from) r (start_leads r from start.view) (grouped old before fits) is acked fed
-    ∙ ap (dress acked fed) (sym (started r from start now member is)))
+    (λ acked.
+    started (dressed acked r) from start now member is
+    ∙ noted_alike (votes.with_heard from) start.view (votes.was_heard r from) r (start_leads r from start.view) (grouped old before fits) is acked
+    ∙ ap (dress acked) (sym (started r from start now member is)))
     (step ∙ sym (started r from start now member is))
 
 pub start_leaves : (old : VrCore) (before : Changing) (new : VrCore) (after : Changing) (acted : Acted) (from : ℕ) (start : StartViewChange) → Fits old before → Stays old new after
-    → stale start.view (votes.was_heard (stands old before) from) (stands old before) ≡ None
     → step_of (stands new after) acted ≡ noted start.view (votes.with_heard from) (stands old before) → Leaves old before new after acted
-start_leaves old before new after acted from start fits stays is step =
+start_leaves old before new after acted from start fits stays step =
     let r : Replica = stands old before in
-    leaves_of old before new after acted _ stays step (noted_ends (votes.with_heard from) start.view (votes.was_heard r from) r (start_leads r from start.view) (grouped old before fits) is)
+    leaves_of old before new after acted _ stays step (noted_ends (votes.with_heard from) start.view r (start_leads r from start.view) (grouped old before fits))
 
 -- in a group of one there is no number but 0
 only_number : (old : VrCore) (before : Changing) (from : ℕ) → from < old.size → Alone (stands old before) → from ≡ 0
@@ -218,15 +207,14 @@ pub vote_step : (old : VrCore) (before : Changing) (new : VrCore) (after : Chang
 vote_step old before new after acted from vote fits now lawful less is step =
     let r : Replica = stands old before in
     lifted old before new after acted (λ q. rules.on_vote q from vote)
-    (λ acked fed.
-    voted (dressed acked fed r) from vote now lawful is
-    ∙ noted_alike (votes.with_vote from vote) vote.view (is_some (votes.vote_of r from)) r (vote_leads r from vote.view vote (only_number old before from less)) (grouped old before fits) is acked fed
-    ∙ ap (dress acked fed) (sym (voted r from vote now lawful is)))
+    (λ acked.
+    voted (dressed acked r) from vote now lawful is
+    ∙ noted_alike (votes.with_vote from vote) vote.view (is_some (votes.vote_of r from)) r (vote_leads r from vote.view vote (only_number old before from less)) (grouped old before fits) is acked
+    ∙ ap (dress acked) (sym (voted r from vote now lawful is)))
     (step ∙ sym (voted r from vote now lawful is))
 
 pub vote_leaves : (old : VrCore) (before : Changing) (new : VrCore) (after : Changing) (acted : Acted) (from : ℕ) (vote : Vote) → Fits old before → Stays old new after → from < old.size
-    → stale vote.view (is_some (votes.vote_of (stands old before) from)) (stands old before) ≡ None
     → step_of (stands new after) acted ≡ noted vote.view (votes.with_vote from vote) (stands old before) → Leaves old before new after acted
-vote_leaves old before new after acted from vote fits stays less is step =
+vote_leaves old before new after acted from vote fits stays less step =
     let r : Replica = stands old before in
-    leaves_of old before new after acted _ stays step (noted_ends (votes.with_vote from vote) vote.view (is_some (votes.vote_of r from)) r (vote_leads r from vote.view vote (only_number old before from less)) (grouped old before fits) is)
+    leaves_of old before new after acted _ stays step (noted_ends (votes.with_vote from vote) vote.view r (vote_leads r from vote.view vote (only_number old before from less)) (grouped old before fits))

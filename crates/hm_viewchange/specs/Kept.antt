@@ -5,12 +5,12 @@ use Rattle.hm_viewchange.specs.declared.view_change.ViewChange.TheInside.{Inside
 use Rattle.hm_viewchange.specs.Changing.{Changing}
 
 abbrev pub changing_of : Inside → Changing
-changing_of v = record { heard = v.heard; votes = v.votes; choice = v.choice; behind = v.staged.entries; cap = v.staged.cap }
+changing_of v = record { heard = v.heard; votes = v.votes; choice = v.choice; cap = v.cap }
 
 abbrev pub HasRoom : ℕ → Option Vote → Type 0
 HasRoom cap vote = IfSome vote (λ v. v.len ≤ cap)
 
--- the log that is chosen has room in the staged list, whichever is chosen
+-- the log that is chosen is within the bound, whichever is chosen
 pub record IsKept (v : Inside) : Type 0 where
   pub choice : IfSome v.choice (λ voter. voter ≤ 6)
-  pub votes : All (HasRoom v.staged.cap) v.votes
+  pub votes : All (HasRoom v.cap) v.votes

@@ -13,13 +13,13 @@ use Rattle.hm_viewchange.specs.declared.vr_core.VrCore.{VrCore}
 use Rattle.hm_viewchange.specs.Changing.{Changing, idle}
 use Rattle.hm_viewchange.specs.Standing.{replica_of}
 
--- where nothing is acknowledged, and nothing staged elsewhere
+-- where nothing is acknowledged
 abbrev pub stands : VrCore → Changing → Replica
-stands core change = replica_of none_acked None core change
+stands core change = replica_of none_acked core change
 
 -- without what is kept of a view change, for rules that read nothing of it
 abbrev pub bare : VrCore → Replica
-bare core = replica_of [] None core (idle 0)
+bare core = replica_of [] core (idle 0)
 
 -- why no notice is taken of news of a view that isn't earlier
 abbrev pub stale : ℕ → Bool → Replica → Option Why

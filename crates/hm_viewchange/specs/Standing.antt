@@ -21,25 +21,24 @@ status_of status.Change = Status.Change
 status_of status.Pulling = Status.Pulling
 status_of status.Staging = Status.Staging
 
--- A backup's staged list is kept elsewhere, and counts while the status is Staging; the list that a primary pulls is that of the view
--- change, and counts while the status is Pulling.
-abbrev pub staged_in : VrStatus → Option (List Entry) → List Entry → Option (List Entry)
-staged_in status.Staging fed pulled = fed
-staged_in status.Pulling fed pulled = Some pulled
-staged_in other fed pulled = None
+-- the applied prefix, and what is staged behind it
+abbrev pub staged_list : VrCore → List Entry
+staged_list core = applied_entries core.shim ++ core.staged.entries
 
--- what is pulled so far: the applied prefix, and what is staged behind it
-abbrev pub pulled_list : VrCore → Changing → List Entry
-pulled_list core change = applied_entries core.shim ++ change.behind
+-- a list counts as staged by a backup and by a primary that pulls
+abbrev pub staged_in : VrStatus → List Entry → Option (List Entry)
+staged_in status.Staging list = Some list
+staged_in status.Pulling list = Some list
+staged_in other list = None
 
--- What others acknowledged, and what a backup stages, is kept elsewhere and told.
-abbrev pub replica_of : List ℕ → Option (List Entry) → VrCore → Changing → Replica
-replica_of acked fed core change = record {
+-- what others acknowledged is kept elsewhere and told
+abbrev pub replica_of : List ℕ → VrCore → Changing → Replica
+replica_of acked core change = record {
   me = core.me;
   members = numbers_from 0 core.size;
   cap = core.shim.cap;
   log = core.shim.entries;
-  staged = staged_in core.status fed (pulled_list core change);
+  staged = staged_in core.status (staged_list core);
   view = core.view;
   start = core.start;
   known = core.shim.applied;
@@ -58,11 +57,14 @@ abbrev pub acked_after : Did → VrStatus → List ℕ → List ℕ
 acked_after did.Done status.Normal acked = none_acked
 acked_after other now acked = acked
 
--- what a call did is the rules' step, whatever was acknowledged before, and whatever a backup stages elsewhere
+-- what a call did is the rules' step, whatever was acknowledged before
 abbrev pub IsStep : VrCore → Changing → VrCore → Changing → Acted → (Replica → Stepped) → Type 0
 IsStep old before new after acted rule =
-    (acked : List ℕ) → (fed : Option (List Entry))
-    → step_of (replica_of (acked_after acted.did new.status acked) fed new after) acted ≡ rule (replica_of acked fed old before)
+    (acked : List ℕ) → step_of (replica_of (acked_after acted.did new.status acked) new after) acted ≡ rule (replica_of acked old before)
+
+-- what is staged has room in the log
+abbrev pub StagedFits : VrCore → Type 0
+StagedFits core = core.shim.applied + length core.staged.entries ≤ core.shim.cap
 
 -- what a core and a view change owe to each other before each call, and after it
 pub record Fits (core : VrCore) (change : Changing) : Type 0 where
@@ -70,8 +72,9 @@ pub record Fits (core : VrCore) (change : Changing) : Type 0 where
   pub size : core.size ≤ 7
   pub odd : core.size % 2 ≡ 1
   pub caps : change.cap ≡ core.shim.cap
-  -- a list that is pulled fits into the log
-  pub room : core.status ≡ status.Pulling → core.shim.applied + length change.behind ≤ core.shim.cap
+  pub staged : core.staged.cap ≡ core.shim.cap
+  pub staging : core.status ≡ status.Staging → StagedFits core
+  pub pulling : core.status ≡ status.Pulling → StagedFits core
 
 -- the replica is the same one, and its core and its view change still fit
 pub record Stays (old new : VrCore) (after : Changing) : Type 0 where
@@ -86,7 +89,5 @@ pub record Leaves (old : VrCore) (before : Changing) (new : VrCore) (after : Cha
   -- a packet of which no notice is taken changes nothing
   pub core : (reason : Why) → acted.did ≡ did.Ignored reason → new ≡ old
   pub change : (reason : Why) → acted.did ≡ did.Ignored reason → after ≡ before
-  -- no other step leaves a backup's staging as it was
-  pub staging : acted.did ≡ did.Done → new.status ≡ status.Staging → ⊥
   -- where the view has begun there is room for what its primary sends then
   pub few : new.status ≡ status.Normal → length acted.outs ≤ 1

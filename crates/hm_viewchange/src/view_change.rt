@@ -1,41 +1,36 @@
-ghost use Rattle.std.specs.Prelude.{◌≡◌, ◌<◌, ◌≤◌, ◌+◌, ◌++◌, ◌&&◌, false, not, nat_lt, nat_le, length, drop, count_by, slice_get, slice_set, is_some, IfOk, IfSome, Some, Option, List, ℕ};
+ghost use Rattle.std.specs.Prelude.{◌≡◌, ◌<◌, ◌≤◌, ◌+◌, ◌++◌, ◌&&◌, false, not, nat_lt, nat_le, length, drop, count_by, slice_get, slice_set, is_some, IfSome, Some, List, ℕ};
 ghost use Rattle.hm_packet.specs.Steps.{max_outs};
 ghost use Rattle.hm_replica.specs.Steps.{step_of, sends_act};
 ghost use Rattle.hm_rules.specs.Replica.{Status};
 ghost use Rattle.hm_rules.specs.ReplicaSteps as steps;
 ghost use Rattle.hm_rules.specs.ViewChange as rules;
 ghost use Rattle.hm_rules.specs.Votes as votes;
-ghost use Rattle.hm_shim.specs.State.{applied_entries};
-ghost use Rattle.hm_store.specs.Log.{max_log_len};
 ghost use Rattle.hm_viewchange.specs.Ballots.{ballot_of, ballot_in};
 ghost use Rattle.hm_viewchange.specs.Changing.{idle};
 ghost use Rattle.hm_viewchange.specs.Parts as parts;
 ghost use Rattle.hm_viewchange.specs.Parts.{bare, stands};
-ghost use Rattle.hm_viewchange.specs.Standing.{replica_of, pulled_list, status_of, IsStep, Fits, Stays, Leaves};
+ghost use Rattle.hm_viewchange.specs.Standing.{replica_of, staged_list, status_of, IsStep, StagedFits, Fits, Stays, Leaves};
 
 use crate::group::{faults, group_size, primary_of};
 use crate::packets::{own_vote, page_packet, pull_packet, push_starts, vote_packet};
 use crate::votes::{Ballot, best, count_heard, count_votes, greatest_commit};
 use crate::vr_core::{MAX_REPLICAS, VrCore, VrStatus};
 use hm_base::entry::Entry;
-use hm_base::memory::NoMemory;
 use hm_base::why::Why;
 use hm_codec::acted::Acted;
 use hm_codec::outs::Outs;
 use hm_packet::body::{Page, Pull, StartViewChange, Vote};
 use hm_replica::acts::{ignore, push, send_none, send_one};
-use hm_store::staged::Staged;
-use std::alloc::Global;
 use std::marker::Model;
 
-/// What a replica keeps while its view is being changed: who was heard to enter the view, who voted in it, whose log is pulled, and
-/// what of that is staged behind the applied prefix. All memory is taken at opening. Contracts see the record of its fields.
+/// What a replica keeps while its view is being changed: who was heard to enter the view, who voted in it, and whose log is pulled.
+/// Contracts see the record of its fields.
 #[derive(Drop)]
 pub struct ViewChange {
     heard: [bool; MAX_REPLICAS],
     votes: [Option<Vote>; MAX_REPLICAS],
     choice: Option<u8>,
-    staged: Staged,
+    cap: u32,
 }
 
 impl Model for ViewChange {
@@ -51,17 +46,16 @@ impl Model for ViewChange {
 }
 
 impl ViewChange {
-    /// Nobody heard, no votes, and room for a staged list of `cap` entries. All memory is taken here.
-    pub fn open(alloc: Global, cap: u32) -> Result<ViewChange, NoMemory>
-        requires { cap ≤ max_log_len }
-        ensures { IfOk result (λ v. v ≡ idle cap) }
+    /// Nobody heard, and no votes, in a group whose logs have at most `cap` entries.
+    pub fn open(cap: u32) -> ViewChange
+        ensures { result ≡ idle cap }
     {
-        Ok(ViewChange {
+        ViewChange {
             heard: [false; MAX_REPLICAS],
             votes: [None; MAX_REPLICAS],
             choice: None,
-            staged: Staged::open(alloc, cap)?,
-        })
+            cap,
+        }
     }
 
     /// The replica hears nothing of its primary, and enters the next view. Status exactly at the greatest view.
@@ -126,8 +120,7 @@ impl ViewChange {
     /// The primary of a view, which has this number, asks for the log. Nothing changes.
     pub fn on_pull(&self, core: &VrCore, from: u32, pull: &Pull, acted: &mut Acted)
         requires { Fits core.now self.now }
-        ensures { (acked : List ℕ) → (fed : Option (List Entry))
-            → step_of (replica_of acked fed core.now self.now) acted.new ≡ rules.on_pull (replica_of acked fed core.now self.now) from pull.now }
+        ensures { (acked : List ℕ) → step_of (replica_of acked core.now self.now) acted.new ≡ rules.on_pull (replica_of acked core.now self.now) from pull.now }
     {
         send_page(core, from, pull, acted)
     }
@@ -154,8 +147,7 @@ impl ViewChange {
     /// What was sent for a view that hasn't begun is sent again; nothing where the status is Normal or Staging.
     pub fn again(&self, core: &VrCore, acted: &mut Acted)
         requires { Fits core.now self.now }
-        ensures { (acked : List ℕ) → (fed : Option (List Entry))
-            → acted.new ≡ sends_act (rules.again (replica_of acked fed core.now self.now) (status_of core.now.status)) }
+        ensures { (acked : List ℕ) → acted.new ≡ sends_act (rules.again (replica_of acked core.now self.now) (status_of core.now.status)) }
     {
         send_none(acted);
         match core.status {
@@ -331,7 +323,7 @@ impl ViewChange {
     {
         let known = core.shim.log().applied_len();
         let _len = core.shim.log().len();
-        self.staged.clear();
+        core.staged.clear();
         if known == chosen.vote.len {
             return self.adopt(core);
         }
@@ -343,11 +335,11 @@ impl ViewChange {
     /// The staged list becomes the log, with its client table, and the view begins with it.
     fn adopt(&mut self, core: &mut VrCore)
         requires fits { Fits core.old self.old }
-        requires room { core.old.shim.applied + length self.old.behind ≤ core.old.shim.cap }
-        ensures begun { stands core.new self.new ≡ rules.begun_with (pulled_list core.old self.old) (stands core.old self.old) }
+        requires room { StagedFits core.old }
+        ensures begun { stands core.new self.new ≡ rules.begun_with (staged_list core.old) (stands core.old self.old) }
         ensures stays { Stays core.old core.new self.new }
     {
-        core.shim.adopt(self.staged.as_slice());
+        core.shim.adopt(core.staged.as_slice());
         self.begin(core);
     }
 
@@ -393,11 +385,11 @@ impl ViewChange {
         requires pulling { core.old.status ≡ VrStatus.Pulling }
         requires voter { chosen.now.voter ≤ 6 }
         requires room { chosen.now.vote.len ≤ self.old.cap }
-        ensures step { step_of (stands core.new self.new) acted.new ≡ rules.takes_page (stands core.old self.old) from page.now (pulled_list core.old self.old) (Some (ballot_of chosen.now)) }
+        ensures step { step_of (stands core.new self.new) acted.new ≡ rules.takes_page (stands core.old self.old) from page.now (staged_list core.old) (Some (ballot_of chosen.now)) }
         ensures leaves { Leaves core.old self.old core.new self.new acted.new }
     {
         let end = u64::from(page.first) + u64::from(page.entries.len());
-        let held = self.held(core);
+        let held = held(core);
         if u32::from(chosen.voter) != from || end > u64::from(chosen.vote.len) {
             return ignore(acted, Why::Foreign);
         }
@@ -408,18 +400,8 @@ impl ViewChange {
             return ignore(acted, Why::Repeat);
         }
         send_none(acted);
-        self.staged.extend(new_of(page, held - page.first));
+        core.staged.extend(new_of(page, held - page.first));
         self.pull_on(core, chosen, &mut acted.outs);
-    }
-
-    /// How much of the chosen log is there.
-    fn held(&self, core: &VrCore) -> u32
-        requires fits { Fits core.now self.now }
-        requires pulling { core.now.status ≡ VrStatus.Pulling }
-        ensures len { result ≡ length (pulled_list core.now self.now) }
-        ensures sum { result ≡ core.now.shim.applied + length self.now.behind }
-    {
-        core.shim.staged_len(&self.staged)
     }
 
     /// Begins the view with the staged list where that is as long as the chosen vote says, else pulls what is missing.
@@ -428,11 +410,11 @@ impl ViewChange {
         requires pulling { core.old.status ≡ VrStatus.Pulling }
         requires voter { chosen.now.voter ≤ 6 }
         requires room { length outs.old < max_outs }
-        ensures sent { steps.sends (stands core.new self.new) outs.new ≡ steps.sends_first outs.old (rules.pulled (stands core.old self.old) chosen.now.voter chosen.now.vote.len (pulled_list core.old self.old)) }
+        ensures sent { steps.sends (stands core.new self.new) outs.new ≡ steps.sends_first outs.old (rules.pulled (stands core.old self.old) chosen.now.voter chosen.now.vote.len (staged_list core.old)) }
         ensures stays { Stays core.old core.new self.new }
         ensures few { length outs.new ≤ length outs.old + 1 }
     {
-        let held = self.held(core);
+        let held = held(core);
         if held == chosen.vote.len {
             return self.adopt(core);
         }
@@ -460,7 +442,7 @@ impl ViewChange {
         ensures { outs.new ≡ outs.old ++ rules.again (stands core.now self.now) Status.Pulling }
     {
         if let Some(chosen) = self.choice {
-            push(outs, &pull_packet(core, chosen, self.held(core)));
+            push(outs, &pull_packet(core, chosen, held(core)));
         }
     }
 }
@@ -513,6 +495,15 @@ fn send_page(core: &VrCore, from: u32, pull: &Pull, acted: &mut Acted)
         return ignore(acted, Why::Gap);
     }
     send_one(acted, &page_packet(core, primary, pull.first));
+}
+
+/// How much of the chosen log is there.
+fn held(core: &VrCore) -> u32
+    requires { StagedFits core.now }
+    ensures len { result ≡ length (staged_list core.now) }
+    ensures sum { result ≡ core.now.shim.applied + length core.now.staged.entries }
+{
+    core.shim.staged_len(&core.staged)
 }
 
 /// The entries of a page from a place on.

@@ -1,4 +1,5 @@
 use hm_shim::shim::Shim;
+use hm_store::staged::Staged;
 
 /// How many replicas there can be: their numbers are 0 to 6.
 pub const MAX_REPLICAS: usize = 7;
@@ -21,6 +22,8 @@ pub enum VrStatus {
 #[derive(Drop)]
 pub struct VrCore {
     pub shim: Shim,
+    /// What is staged behind the applied prefix, by a backup that stages or by a primary that pulls.
+    pub staged: Staged,
     pub me: u8,
     /// How many replicas the group has, which never changes: an odd number, so that f of 2f + 1 may stop.
     pub size: u8,

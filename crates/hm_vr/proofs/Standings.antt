@@ -1,12 +1,10 @@
 -- What holds of a replica after a step of the view change, once it has begun anew what it keeps of the others.
-use Rattle.std.proofs.Common.{◌≡◌, ◌≤◌, ℕ, Bool, true, false, List, length, Option, None, refl, sym, ap, subst, ◌∙◌, inl, inr, arith}
+use Rattle.std.proofs.Common.{◌≡◌, ◌≤◌, ℕ, Bool, true, false, List, length, refl, sym, ap, subst, ◌∙◌, inl, inr, arith}
 use Rattle.std.specs.Prelude.{◌&&◌, All}
 use Rattle.std.proofs.lemmas.Bool.{false≢true, and_from}
 use Rattle.std.proofs.lemmas.List.Elements.{All-replicate}
-use Rattle.hm_base.specs.declared.entry.Entry.{Entry}
 use Rattle.hm_base.specs.declared.why.Why.{Why}
 use Rattle.hm_codec.specs.declared.acted.Acted.{Acted}
-use Rattle.hm_feed.specs.Answers.{Following, staged_on}
 use Rattle.hm_feed.specs.Sending.{Sending}
 use Rattle.hm_packet.specs.declared.acted.Did.{Did}
 use Rattle.hm_packet.specs.declared.acted.Did.TheVariants as did
@@ -20,9 +18,9 @@ use Rattle.hm_viewchange.specs.Changing.{Changing}
 use Rattle.hm_viewchange.specs.declared.vr_core.VrCore.{VrCore}
 use Rattle.hm_viewchange.specs.declared.vr_core.VrStatus.{VrStatus}
 use Rattle.hm_viewchange.specs.declared.vr_core.VrStatus.TheVariants as status
-use Rattle.hm_viewchange.specs.Standing.{replica_of, status_of, staged_in, pulled_list, acked_after, IsStep, Leaves}
+use Rattle.hm_viewchange.specs.Standing.{replica_of, status_of, acked_after, IsStep, Leaves}
 use Rattle.hm_vr.specs.declared.vr.Vr.TheInside.{Inside}
-use Rattle.hm_vr.specs.Parts.{sender_after, follower_after, Begins}
+use Rattle.hm_vr.specs.Parts.{sender_after, Begins}
 use Rattle.hm_vr.specs.Standing.{vr_of, IsKept}
 use Rattle.hm_vr.proofs.Changes.{Ends, is_owned}
 
@@ -53,7 +51,6 @@ after v core change d = record {
   core = core;
   members = v.members;
   sender = sender_after d core.status core.view core.start v.sender;
-  follower = follower_after d core.status v.follower;
   change = change;
 }
 
@@ -65,50 +62,21 @@ acked_same did.Done status.Staging view start before = refl
 acked_same (did.Ignored reason) s view start before = refl
 acked_same did.LogFull s view start before = refl
 
--- what a backup stages counts while the status is Staging alone
-unread : (s : VrStatus) (fed other : Option (List Entry)) (pulled : List Entry) → (s ≡ status.Staging → ⊥) → staged_in s fed pulled ≡ staged_in s other pulled
-unread status.Normal fed other pulled apart = refl
-unread status.Change fed other pulled apart = refl
-unread status.Pulling fed other pulled apart = refl
-unread status.Staging fed other pulled apart = absurd (apart refl)
-
-cap_same : (d : Did) (s : VrStatus) (before : Following) → (follower_after d s before).cap ≡ before.cap
-cap_same did.Done status.Normal before = refl
-cap_same did.Done status.Change before = refl
-cap_same did.Done status.Pulling before = refl
-cap_same did.Done status.Staging before = refl
-cap_same (did.Ignored reason) s before = refl
-cap_same did.LogFull s before = refl
-
 -- the replica as the view change sees it
 abbrev seen : Inside → VrCore → Changing → Did → Replica
-seen v core change d = replica_of (acked_after d core.status v.sender.acked) (staged_on v.core.shim v.follower.behind) core change
+seen v core change d = replica_of (acked_after d core.status v.sender.acked) core change
 
-staged_same : (v : Inside) (core : VrCore) (change : Changing) (acted : Acted) → Leaves v.core v.change core change acted → Ends (step_of (seen v core change acted.did) acted)
-    → staged_in core.status (staged_on core.shim (follower_after acted.did core.status v.follower).behind) (pulled_list core change) ≡ staged_in core.status (staged_on v.core.shim v.follower.behind) (pulled_list core change)
-staged_same v core change acted leaves (inl fine) =
-    unread core.status (staged_on core.shim (follower_after acted.did core.status v.follower).behind) (staged_on v.core.shim v.follower.behind) (pulled_list core change) (λ is. leaves.staging fine.done is)
-staged_same v core change acted leaves (inr quiet) =
-    ap (λ (d : Did). staged_in core.status (staged_on core.shim (follower_after d core.status v.follower).behind) (pulled_list core change)) quiet.is
-    ∙ ap (λ (k : VrCore). staged_in core.status (staged_on k.shim v.follower.behind) (pulled_list core change)) (leaves.core quiet.reason quiet.is)
-
-seen_is : (v : Inside) (core : VrCore) (change : Changing) (acted : Acted) → Leaves v.core v.change core change acted → Ends (step_of (seen v core change acted.did) acted)
-    → vr_of (after v core change acted.did) ≡ seen v core change acted.did
-seen_is v core change acted leaves ends =
-    ap (λ (a : List ℕ). replica_of a (staged_on core.shim (follower_after acted.did core.status v.follower).behind) core change) (acked_same acted.did core.status core.view core.start v.sender)
-    ∙ ap (λ (l : Option (List Entry)). record (seen v core change acted.did) { staged = l }) (staged_same v core change acted leaves ends)
+seen_is : (v : Inside) (core : VrCore) (change : Changing) (d : Did) → vr_of (after v core change d) ≡ seen v core change d
+seen_is v core change d = ap (λ (a : List ℕ). replica_of a core change) (acked_same d core.status core.view core.start v.sender)
 
 -- ---- what holds then
 
-kept_done : (v : Inside) (core : VrCore) (change : Changing) (acted : Acted) → IsKept v → Leaves v.core v.change core change acted → acted.did ≡ did.Done
+kept_done : (v : Inside) (core : VrCore) (change : Changing) (acted : Acted) → IsKept v → Leaves v.core v.change core change acted
     → (is_owned (status_of core.status) ≡ true → is_own_view (seen v core change did.Done) ≡ true) → IsKept (after v core change did.Done)
-kept_done v core change acted kept leaves done owned = record {
+kept_done v core change acted kept leaves owned = record {
   members = kept.members ∙ ap (numbers_from 0) (sym leaves.stays.size);
   fits = leaves.stays.fits;
-  caps = cap_same did.Done core.status v.follower ∙ kept.caps ∙ sym leaves.stays.cap;
   pulling = λ is. owned (ap (λ (s : VrStatus). is_owned (status_of s)) is);
-  staging = λ is. absurd (leaves.staging done is);
-  normal = λ is. subst (λ (s : VrStatus). (follower_after did.Done s v.follower).behind ≡ None) (sym is) refl;
   leads = λ lead.
       let both : (is_own_view (vr_of (after v core change did.Done)) ≡ true) × (is_normal (status_of core.status) ≡ true) = and_true (is_own_view (vr_of (after v core change did.Done))) (is_normal (status_of core.status)) lead in
       let now : core.status ≡ status.Normal = normal_from core.status both.1 in
@@ -128,7 +96,7 @@ kept_done v core change acted kept leaves done owned = record {
 kept_after : (v : Inside) (core : VrCore) (change : Changing) (acted : Acted) → IsKept v → Leaves v.core v.change core change acted → Ends (step_of (seen v core change acted.did) acted) → IsKept (after v core change acted.did)
 kept_after v core change acted kept leaves (inl fine) =
     subst (λ (d : Did). IsKept (after v core change d)) (sym fine.done)
-    (kept_done v core change acted kept leaves fine.done (λ now. subst (λ (d : Did). is_own_view (seen v core change d) ≡ true) fine.done (fine.owned now)))
+    (kept_done v core change acted kept leaves (λ now. subst (λ (d : Did). is_own_view (seen v core change d) ≡ true) fine.done (fine.owned now)))
 kept_after v core change acted kept leaves (inr quiet) =
     subst (λ (d : Did). IsKept (after v core change d)) (sym quiet.is)
     (subst (λ (k : VrCore). IsKept (after v k change (did.Ignored quiet.reason))) (sym (leaves.core quiet.reason quiet.is))
@@ -154,25 +122,23 @@ begins_after v core change acted leaves (inr quiet) = λ done now. absurd (other
 
 -- What a call of the view change gave, told of the replica that has begun anew: it is kept, it leads where it has begun the view, and
 -- what it and the call are together is the step of the rules.
-pub record Told (v : Inside) (core : VrCore) (change : Changing) (acted : Acted) (sender : Sending) (follower : Following) (s : Stepped) : Type 0 where
-  pub kept : IsKept (record { core = core; members = v.members; sender = sender; follower = follower; change = change })
-  pub begins : Begins (vr_of (record { core = core; members = v.members; sender = sender; follower = follower; change = change })) acted
-  pub step : step_of (vr_of (record { core = core; members = v.members; sender = sender; follower = follower; change = change })) acted ≡ s
+pub record Told (v : Inside) (core : VrCore) (change : Changing) (acted : Acted) (sender : Sending) (s : Stepped) : Type 0 where
+  pub kept : IsKept (record { core = core; members = v.members; sender = sender; change = change })
+  pub begins : Begins (vr_of (record { core = core; members = v.members; sender = sender; change = change })) acted
+  pub step : step_of (vr_of (record { core = core; members = v.members; sender = sender; change = change })) acted ≡ s
 
-pub told : (v : Inside) (core : VrCore) (change : Changing) (acted : Acted) (sender : Sending) (follower : Following) (r : Replica) (rule : Replica → Stepped) → IsKept v → vr_of v ≡ r
+pub told : (v : Inside) (core : VrCore) (change : Changing) (acted : Acted) (sender : Sending) (r : Replica) (rule : Replica → Stepped) → IsKept v → vr_of v ≡ r
     → IsStep v.core v.change core change acted rule → Leaves v.core v.change core change acted → Ends (rule r)
-    → sender ≡ sender_after acted.did core.status core.view core.start v.sender → follower ≡ follower_after acted.did core.status v.follower
-    → Told v core change acted sender follower (rule r)
-told v core change acted sender follower r rule kept view step leaves ends anew unstaged =
-    let gave : step_of (seen v core change acted.did) acted ≡ rule r = step v.sender.acked (staged_on v.core.shim v.follower.behind) ∙ ap rule view in
+    → sender ≡ sender_after acted.did core.status core.view core.start v.sender → Told v core change acted sender (rule r)
+told v core change acted sender r rule kept view step leaves ends anew =
+    let gave : step_of (seen v core change acted.did) acted ≡ rule r = step v.sender.acked ∙ ap rule view in
     let ended : Ends (step_of (seen v core change acted.did) acted) = subst Ends (sym gave) ends in
-    let whole : Told v core change acted (sender_after acted.did core.status core.view core.start v.sender) (follower_after acted.did core.status v.follower) (rule r) = record {
+    let whole : Told v core change acted (sender_after acted.did core.status core.view core.start v.sender) (rule r) = record {
       kept = kept_after v core change acted kept leaves ended;
       begins = begins_after v core change acted leaves ended;
-      step = ap (λ (q : Replica). step_of q acted) (seen_is v core change acted leaves ended) ∙ gave;
+      step = ap (λ (q : Replica). step_of q acted) (seen_is v core change acted.did) ∙ gave;
     } in
-    subst (λ (f : Following). Told v core change acted sender f (rule r)) (sym unstaged)
-    (subst (λ (s : Sending). Told v core change acted s (follower_after acted.did core.status v.follower) (rule r)) (sym anew) whole)
+    subst (λ (s : Sending). Told v core change acted s (rule r)) (sym anew) whole
 
 -- a log is pulled by its view's primary alone
 pub pulls_own : (v : Inside) (r : Replica) → IsKept v → vr_of v ≡ r → is_pulling r.status ≡ true → is_own_view r ≡ true

@@ -1,10 +1,9 @@
 -- Parts of the rows of Viewstamped Replication, as the code is divided.
-use Rattle.std.specs.Prelude.{◌≡◌, ℕ, ◌≤◌, true, ◌==◌, nat_lt, nat_le, if◌then◌else◌, [], ◌∷◌, length, None}
+use Rattle.std.specs.Prelude.{◌≡◌, ℕ, ◌≤◌, true, ◌==◌, nat_lt, nat_le, if◌then◌else◌, [], ◌∷◌, length}
 use Rattle.hm_base.specs.declared.node.Node.TheVariants as node
 use Rattle.hm_base.specs.declared.why.Why.TheVariants as why
 use Rattle.hm_base.specs.Taking.{Taken, take_page}
 use Rattle.hm_codec.specs.declared.acted.Acted.{Acted}
-use Rattle.hm_feed.specs.Answers.{Following}
 use Rattle.hm_feed.specs.Sending.{Sending, opening}
 use Rattle.hm_packet.specs.declared.acted.Did.{Did}
 use Rattle.hm_packet.specs.declared.acted.Did.TheVariants as did
@@ -12,9 +11,9 @@ use Rattle.hm_packet.specs.declared.body.Body.TheVariants as body
 use Rattle.hm_packet.specs.declared.body.Feed.{Feed}
 use Rattle.hm_packet.specs.declared.body.NormalRead.{NormalRead}
 use Rattle.hm_rules.specs.Replica.{Replica, Status, len, acked_by, with_acked}
-use Rattle.hm_rules.specs.ReplicaSteps.{Stepped, ignored, sends, and_sends, to, ack_to}
+use Rattle.hm_rules.specs.ReplicaSteps.{Stepped, ignored, sends, and_sends, to, ack_to, with_taken}
 use Rattle.hm_rules.specs.PrimaryBackup.{page_if_behind}
-use Rattle.hm_rules.specs.Viewstamped.{leads, learned, vr_commits, vr_normal_read}
+use Rattle.hm_rules.specs.Viewstamped.{leads, adopts, learned, vr_commits, vr_normal_read}
 use Rattle.hm_rules.specs.Votes.{primary_of}
 use Rattle.hm_viewchange.specs.declared.vr_core.VrStatus.{VrStatus}
 use Rattle.hm_viewchange.specs.declared.vr_core.VrStatus.TheVariants as status
@@ -28,6 +27,10 @@ read_at_primary r read =
 -- log and staged list after a page
 abbrev pub page_taken : Replica → Feed → Taken
 page_taken r feed = take_page r.cap r.log r.staged feed.start feed.first feed.entries
+
+-- the replica with what a page gave, which is in the view once its staged list has become the log
+abbrev pub with_page : Replica → Taken → Replica
+with_page r t = adopts t.took (with_taken r t)
 
 -- what is told to be committed is applied, and what is held acknowledged
 abbrev pub acknowledged : Replica → ℕ → ℕ → Stepped
@@ -52,8 +55,3 @@ Begins r acted = acted.did ≡ did.Done → r.status ≡ Status.Normal → Begun
 abbrev pub sender_after : Did → VrStatus → ℕ → ℕ → Sending → Sending
 sender_after did.Done status.Normal view start before = opening view start
 sender_after other now view start before = before
-
--- and nothing is staged
-abbrev pub follower_after : Did → VrStatus → Following → Following
-follower_after did.Done status.Normal before = record before { behind = None }
-follower_after other now before = before

@@ -1,6 +1,5 @@
 -- Which replica of the rules a replica's fields stand for, and what holds of them.
-use Rattle.std.specs.Prelude.{◌≡◌, ◌≤◌, true, length, All, None}
-use Rattle.hm_feed.specs.Answers.{staged_on, HasRoom}
+use Rattle.std.specs.Prelude.{◌≡◌, ◌≤◌, true, length, All}
 use Rattle.hm_rules.specs.Numbers.{numbers_from}
 use Rattle.hm_rules.specs.Replica.{Replica}
 use Rattle.hm_rules.specs.Viewstamped.{leads}
@@ -10,7 +9,7 @@ use Rattle.hm_viewchange.specs.Standing.{replica_of, Fits}
 use Rattle.hm_vr.specs.declared.vr.Vr.TheInside.{Inside}
 
 abbrev pub vr_of : Inside → Replica
-vr_of v = replica_of v.sender.acked (staged_on v.core.shim v.follower.behind) v.core v.change
+vr_of v = replica_of v.sender.acked v.core v.change
 
 -- a primary whose view has begun sends pages of it, and nobody has acknowledged more than its log
 pub record Leads (v : Inside) : Type 0 where
@@ -21,10 +20,6 @@ pub record Leads (v : Inside) : Type 0 where
 pub record IsKept (v : Inside) : Type 0 where
   pub members : v.members ≡ numbers_from 0 v.core.size
   pub fits : Fits v.core v.change
-  pub caps : v.follower.cap ≡ v.core.shim.cap
   -- a log is pulled by its view's primary alone
   pub pulling : v.core.status ≡ status.Pulling → is_own_view (vr_of v) ≡ true
-  -- a staged list fits into the log, and there is none where the view has begun
-  pub staging : v.core.status ≡ status.Staging → HasRoom v.core.shim v.follower.behind
-  pub normal : v.core.status ≡ status.Normal → v.follower.behind ≡ None
   pub leads : leads (vr_of v) ≡ true → Leads v

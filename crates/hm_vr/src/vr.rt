@@ -1,4 +1,4 @@
-ghost use Rattle.std.specs.Prelude.{◌≡◌, ◌<◌, ◌≤◌, ◌+◌, ◌++◌, ◌∷◌, ◌==◌, ◌%◌, [], true, false, None, length, map, slice_get, IfOk, IfSome};
+ghost use Rattle.std.specs.Prelude.{◌≡◌, ◌<◌, ◌≤◌, ◌+◌, ◌++◌, ◌==◌, ◌%◌, true, false, length, map, slice_get, IfOk, IfSome};
 ghost use Rattle.hm_rules.specs.Replica.{Status, opened, others, held_len};
 ghost use Rattle.hm_rules.specs.ReplicaSteps as steps;
 ghost use Rattle.hm_rules.specs.Service.{replicas_below};
@@ -21,7 +21,7 @@ use hm_base::verdict::{Admit, Verdict};
 use hm_base::why::Why;
 use hm_codec::acted::Acted;
 use hm_codec::outs::Outs;
-use hm_feed::follower::{Follower, Took};
+use hm_feed::follower::{Took, stage, take};
 use hm_feed::sender::Sender;
 use hm_packet::acted::{Declared, Did};
 use hm_packet::body::{
@@ -36,19 +36,19 @@ use hm_replica::law::{refused_packets_are_ignored, steps_give_their_parts};
 use hm_replica::packets::{as_normal, done_packet, entry_of, packet_from, reply_packet};
 use hm_replica::senders::{number, refusal};
 use hm_shim::shim::{Local, Shim, reply_to};
+use hm_store::staged::Staged;
 use hm_viewchange::view_change::ViewChange;
 use hm_viewchange::vr_core::{VrCore, VrStatus};
 use std::alloc::Global;
 use std::marker::Model;
 
-/// A replica of Viewstamped Replication: its log and its view, what the others acknowledged, the list that is to replace its
-/// log, and what it keeps while its view is being changed. Contracts see the replica of the rules.
+/// A replica of Viewstamped Replication: its log and its view, with the list that is to replace the log, what the others
+/// acknowledged, and what it keeps while its view is being changed. Contracts see the replica of the rules.
 #[derive(Drop)]
 pub struct Vr {
     core: VrCore,
     members: Members,
     sender: Sender,
-    follower: Follower,
     change: ViewChange,
 }
 
@@ -75,6 +75,7 @@ impl Vr {
     {
         let core = VrCore {
             shim: Shim::open(alloc, cap)?,
+            staged: Staged::open(alloc, cap)?,
             me,
             size,
             view: 0,
@@ -86,8 +87,7 @@ impl Vr {
             core,
             members: first_members(size),
             sender: Sender::open(0, 0),
-            follower: Follower::open(alloc, cap)?,
-            change: ViewChange::open(alloc, cap)?,
+            change: ViewChange::open(cap),
         })
     }
 
@@ -312,7 +312,7 @@ impl Vr {
             return log_full(acted);
         }
         let _len = self.core.shim.log().len();
-        self.follower.begin();
+        self.core.staged.clear();
         self.core.view = feed.view;
         self.core.status = VrStatus::Staging;
         self.take_in(from, feed, acted);
@@ -328,25 +328,28 @@ impl Vr {
         match self.take(feed) {
             Took::Gap => ignore(acted, Why::Gap),
             Took::LogFull => log_full(acted),
-            Took::Grown(held) | Took::Staged(held) | Took::Same(held) => {
-                self.acknowledge(from, held, feed.commit, acted);
-            }
-            Took::Adopted(held) => {
-                self.core.status = VrStatus::Normal;
-                self.core.normal = self.core.view;
+            Took::Grown(held) | Took::Staged(held) | Took::Same(held) | Took::Adopted(held) => {
                 self.acknowledge(from, held, feed.commit, acted);
             }
         }
     }
 
-    /// Takes a page in.
+    /// Takes a page in. The view begins here once the staged list has become the log.
     fn take(&mut self, feed: &Feed) -> Took
         requires backup { is_own_view self.old ≡ false }
         requires entered { is_change self.old.status ≡ false }
-        ensures replica { self.new ≡ steps.with_taken self.old (parts.page_taken self.old feed.now) }
+        ensures replica { self.new ≡ parts.with_page self.old (parts.page_taken self.old feed.now) }
         ensures took { result ≡ answer (parts.page_taken self.old feed.now) }
     {
-        self.follower.take(&mut self.core.shim, feed)
+        if self.core.status != VrStatus::Staging {
+            return take(&mut self.core.shim, feed);
+        }
+        let took = stage(&mut self.core.staged, &mut self.core.shim, feed);
+        if matches!(took, Took::Adopted(_)) {
+            self.core.status = VrStatus::Normal;
+            self.core.normal = self.core.view;
+        }
+        took
     }
 
     /// Applies what a page tells to be committed, in a view that has begun here, and acknowledges the list that is held.
@@ -453,7 +456,7 @@ impl Vr {
         ensures { step_of self.new acted.new ≡ rules.led (changes.on_start self.old from start.now) }
     {
         self.change.on_start(&mut self.core, from, start, acted);
-        begin_anew(&self.core, acted.did, &mut self.sender, &mut self.follower);
+        begin_anew(&self.core, acted.did, &mut self.sender);
         self.lead_if_begun(acted);
     }
 
@@ -462,7 +465,7 @@ impl Vr {
         ensures { step_of self.new acted.new ≡ rules.led (changes.on_vote self.old from vote.now) }
     {
         self.change.on_vote(&mut self.core, from, vote, acted);
-        begin_anew(&self.core, acted.did, &mut self.sender, &mut self.follower);
+        begin_anew(&self.core, acted.did, &mut self.sender);
         self.lead_if_begun(acted);
     }
 
@@ -471,7 +474,7 @@ impl Vr {
         ensures { step_of self.new acted.new ≡ rules.led (changes.on_page self.old from page.now) }
     {
         self.change.on_page(&mut self.core, from, page, acted);
-        begin_anew(&self.core, acted.did, &mut self.sender, &mut self.follower);
+        begin_anew(&self.core, acted.did, &mut self.sender);
         self.lead_if_begun(acted);
     }
 
@@ -480,7 +483,7 @@ impl Vr {
         ensures { step_of self.new acted.new ≡ rules.vr_timeout self.old }
     {
         self.change.timeout(&mut self.core, acted);
-        begin_anew(&self.core, acted.did, &mut self.sender, &mut self.follower);
+        begin_anew(&self.core, acted.did, &mut self.sender);
         self.lead_if_begun(acted);
     }
 
@@ -649,14 +652,12 @@ impl Vr {
     }
 }
 
-/// Where a step of the view change has begun the view, nothing counts as acknowledged in it yet, and nothing is staged.
-fn begin_anew(core: &VrCore, did: Did, sender: &mut Sender, follower: &mut Follower)
-    ensures sender { sender.new ≡ parts.sender_after did core.now.status core.now.view core.now.start sender.old }
-    ensures follower { follower.new ≡ parts.follower_after did core.now.status follower.old }
+/// Where a step of the view change has begun the view, nothing counts as acknowledged in it yet.
+fn begin_anew(core: &VrCore, did: Did, sender: &mut Sender)
+    ensures { sender.new ≡ parts.sender_after did core.now.status core.now.view core.now.start sender.old }
 {
     if did == Did::Done && core.status == VrStatus::Normal {
         *sender = Sender::open(core.view, core.start);
-        follower.end();
     }
 }
 

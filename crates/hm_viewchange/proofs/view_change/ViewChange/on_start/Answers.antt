@@ -23,5 +23,4 @@ returns-in-None-clause-leaves c =
     let old = c.args.core.now in
     let before = c.args.self.now in
     let start = c.args.start.now in
-    let is = ap (λ (b : Bool). stale start.view b (bare old)) (sym c.was_heard.ensures) ∙ sym c.stale.ensures ∙ c.in-None.is in
-    start_leaves old before c.note_start.new.core c.note_start.new.self c.note_start.new.acted c.args.from start c.requires c.note_start.ensures.stays is c.note_start.ensures.step
+    start_leaves old before c.note_start.new.core c.note_start.new.self c.note_start.new.acted c.args.from start c.requires c.note_start.ensures.stays c.note_start.ensures.step

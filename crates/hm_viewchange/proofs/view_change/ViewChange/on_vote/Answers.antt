@@ -21,6 +21,4 @@ returns-in-None-clause-leaves c =
     let old = c.args.core.now in
     let before = c.args.self.now in
     let vote = c.args.vote.now in
-    let known = c.is_some.ensures ∙ ap (λ (o : Option Vote). is_some o) c.vote_of.ensures.value in
-    let is = ap (λ (b : Bool). stale vote.view b (bare old)) (sym known) ∙ sym c.stale.ensures ∙ c.in-None.is in
-    vote_leaves old before c.note_vote.new.core c.note_vote.new.self c.note_vote.new.acted c.args.from vote c.requires c.note_vote.ensures.stays (c.is_unlawful.ensures.from c.if-is_unlawful.false) is c.note_vote.ensures.step
+    vote_leaves old before c.note_vote.new.core c.note_vote.new.self c.note_vote.new.acted c.args.from vote c.requires c.note_vote.ensures.stays (c.is_unlawful.ensures.from c.if-is_unlawful.false) c.note_vote.ensures.step

@@ -8,17 +8,17 @@ use Rattle.hm_vr.proofs.vr.Vr.on_start.Goals as goal
 
 pub invariant_of-self : goal.invariant_of-self
 invariant_of-self c =
-    (told c.self.inside c.on_start.new.core c.on_start.new.self c.on_start.new.acted c.begin_anew.new.sender c.begin_anew.new.follower c.args.self.now (λ r. on_start r c.args.from c.args.start.now) c.self.invariant c.self.view_is
-    c.on_start.ensures.step c.on_start.ensures.leaves (start_ends c.args.self.now c.args.from c.args.start.now) c.begin_anew.ensures.sender c.begin_anew.ensures.follower).kept
+    (told c.self.inside c.on_start.new.core c.on_start.new.self c.on_start.new.acted c.begin_anew.new.sender c.args.self.now (λ r. on_start r c.args.from c.args.start.now) c.self.invariant c.self.view_is
+    c.on_start.ensures.step c.on_start.ensures.leaves (start_ends c.args.self.now c.args.from c.args.start.now) c.begin_anew.ensures).kept
 
 pub lead_if_begun-requires : goal.lead_if_begun-requires
 lead_if_begun-requires c =
-    (told c.self.inside c.on_start.new.core c.on_start.new.self c.on_start.new.acted c.begin_anew.new.sender c.begin_anew.new.follower c.args.self.now (λ r. on_start r c.args.from c.args.start.now) c.self.invariant c.self.view_is
-    c.on_start.ensures.step c.on_start.ensures.leaves (start_ends c.args.self.now c.args.from c.args.start.now) c.begin_anew.ensures.sender c.begin_anew.ensures.follower).begins
+    (told c.self.inside c.on_start.new.core c.on_start.new.self c.on_start.new.acted c.begin_anew.new.sender c.args.self.now (λ r. on_start r c.args.from c.args.start.now) c.self.invariant c.self.view_is
+    c.on_start.ensures.step c.on_start.ensures.leaves (start_ends c.args.self.now c.args.from c.args.start.now) c.begin_anew.ensures).begins
 
 pub returns : goal.returns
 returns c =
     c.lead_if_begun.ensures
     ∙ ap (λ (s : Stepped). led s)
-    (told c.self.inside c.on_start.new.core c.on_start.new.self c.on_start.new.acted c.begin_anew.new.sender c.begin_anew.new.follower c.args.self.now (λ r. on_start r c.args.from c.args.start.now) c.self.invariant c.self.view_is
-    c.on_start.ensures.step c.on_start.ensures.leaves (start_ends c.args.self.now c.args.from c.args.start.now) c.begin_anew.ensures.sender c.begin_anew.ensures.follower).step
+    (told c.self.inside c.on_start.new.core c.on_start.new.self c.on_start.new.acted c.begin_anew.new.sender c.args.self.now (λ r. on_start r c.args.from c.args.start.now) c.self.invariant c.self.view_is
+    c.on_start.ensures.step c.on_start.ensures.leaves (start_ends c.args.self.now c.args.from c.args.start.now) c.begin_anew.ensures).step
