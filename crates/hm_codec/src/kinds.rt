@@ -140,6 +140,7 @@ pub(crate) fn reply_packet(head: Head, bytes: &[u8], packet: &mut Packet) -> Res
 }
 
 /// Reads the packet of a page from a log.
+#[inline(always)]
 pub(crate) fn feed_packet<'a>(
     head: Head,
     bytes: &[u8],
@@ -254,6 +255,7 @@ pub(crate) fn pull_packet(head: Head, bytes: &[u8], packet: &mut Packet) -> Resu
 }
 
 /// Reads the packet of a page of the chosen log.
+#[inline(always)]
 pub(crate) fn page_packet<'a>(
     head: Head,
     bytes: &[u8],
@@ -280,6 +282,7 @@ pub(crate) fn page_packet<'a>(
 }
 
 /// Reads the packet of the members of an epoch.
+#[inline(always)]
 pub(crate) fn config_packet(head: Head, bytes: &[u8], packet: &mut Packet) -> Result<(), Malformed>
     requires src { IsLawfulNode head.src }
     requires dst { IsLawfulNode head.dst }
@@ -290,6 +293,7 @@ pub(crate) fn config_packet(head: Head, bytes: &[u8], packet: &mut Packet) -> Re
 }
 
 /// Reads the packet of a route.
+#[inline(always)]
 pub(crate) fn route_packet(head: Head, bytes: &[u8], packet: &mut Packet) -> Result<(), Malformed>
     requires src { IsLawfulNode head.src }
     requires dst { IsLawfulNode head.dst }

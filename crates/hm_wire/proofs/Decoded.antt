@@ -1,13 +1,10 @@
 -- What decoding gives.
-use Rattle.std.proofs.Common.{◌≡◌, ℕ, ◌-◌, ◌≤◌, min, List, length, Some, None, Result, Ok, Err, refl, sym, ap, subst, ◌∙◌, arith}
-use Rattle.std.specs.Prelude.{◌↔◌, IsOk, IfOk, IfErr}
+use Rattle.std.proofs.Common.{◌≡◌, ℕ, ◌-◌, ◌≤◌, min, List, length, Some, None, Result, Ok, Err, refl, sym, ap, ◌∙◌, arith}
 use Rattle.hm_packet.specs.Messages.{Message}
 use Rattle.hm_wire.specs.declared.fault.Fault.{Fault}
-use Rattle.hm_wire.specs.declared.head.Head.{Head}
-use Rattle.hm_wire.specs.declared.malformed.Malformed.{Malformed}
 use Rattle.hm_wire.specs.Grammar.{spell}
 use Rattle.hm_wire.specs.Packets.{packet_fields, numbers, spelling, first_fault, HasSpelling}
-use Rattle.hm_wire.specs.Reading.{◌>>=◌, Part, head_at, body_at, end_with, packet_of, located_at, located}
+use Rattle.hm_wire.specs.Reading.{packet_of, located}
 use Rattle.hm_wire.specs.Exact.{IsBytes, IsExact}
 use Rattle.std.proofs.lemmas.Option.{none-some}
 use Rattle.hm_wire.specs.Grammar.Grammar.{ended}

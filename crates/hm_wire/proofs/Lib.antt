@@ -3,6 +3,7 @@ mod Readers
 mod PartReaders
 mod BodyReaders
 mod PacketReader
+mod Short
 mod Loops
 mod Lengths
 mod Decoded

@@ -15,7 +15,7 @@ use Rattle.hm_wire.specs.Grammar.Grammar.{ended, field}
 use Rattle.hm_wire.specs.Packets.{is_within, node_fields, stamp_fields, value_fields, answer_fields, page_fields, replica_field, members_fields, body_fields, packet_fields, node_numbers, body_numbers, code, numbers, spelling, first_fault, HasSpelling}
 use Rattle.hm_wire.specs.Reading.{◌>>=◌, Part, field_at, node_at, as_body, body_at, whole, end_with, head_at, packet_of, read_at, write_at, put_at, fast_read_at, normal_read_at, done_at, reply_at, feed_at, feed_ack_at, ask_at, known_at, start_view_change_at, vote_at, pull_at, page_at, config_at, route_at, refuse_at, refused_at}
 use Rattle.hm_wire.specs.Exact.{IsBytes}
-use Rattle.hm_wire.proofs.Readers.{placed, IsReader, Fills, fill_chain}
+use Rattle.hm_wire.proofs.Readers.{bind_assoc, placed, IsReader, Fills, fill_chain}
 use Rattle.hm_wire.proofs.PartReaders.{fill_field, node_reader}
 use Rattle.hm_wire.proofs.BodyReaders.{read_body, read_reader, write_body, write_reader, put_body, put_reader, fast_read_body, fast_read_reader, normal_read_body, normal_read_reader, done_body, done_reader, reply_body, reply_reader, feed_body, feed_reader, feed_ack_body, feed_ack_reader, ask_body, ask_reader, known_body, known_reader, start_view_change_body, start_view_change_reader, vote_body, vote_reader, pull_body, pull_reader, page_body, page_reader, config_body, config_reader, route_body, route_reader, refuse_body, refuse_reader, refused_body, refused_reader}
 
@@ -41,10 +41,6 @@ fill_whole before m is = record {
         let yes = rw no at e in
         let same : g ≡ f = cc in
         ap (λ (h : Fault). Some (placed total h)) same
-
-bind_assoc : {A B C : Type 0} (r : Result A Fault) (f : A → Result B Fault) (g : B → Result C Fault) → (r >>= λ a. f a >>= g) ≡ ((r >>= f) >>= g)
-bind_assoc (Ok x) f g = refl
-bind_assoc (Err e) f g = refl
 
 same_fills : {X : Type 0} (fields : Grammar) (numbers : X → List ℕ) (before : List ℕ) (read again : List ℕ → Result X Fault) → ((bytes : List ℕ) → read bytes ≡ again bytes) → Fills fields numbers before read → Fills fields numbers before again
 same_fills {X} fields numbers before read again is h = record {

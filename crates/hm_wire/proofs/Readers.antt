@@ -65,6 +65,10 @@ pub bind_ok : {A B : Type 0} (r : Result A Fault) (f : A → Result B Fault) (y 
 bind_ok (Ok x) f y e = (x, refl, e)
 bind_ok (Err d) f y e = absurd cc
 
+pub bind_assoc : {A B C : Type 0} (r : Result A Fault) (f : A → Result B Fault) (g : B → Result C Fault) → (r >>= λ a. f a >>= g) ≡ ((r >>= f) >>= g)
+bind_assoc (Ok x) f g = refl
+bind_assoc (Err e) f g = refl
+
 -- a part and then the others
 pub chain : {X Y : Type 0} (p q : Grammar → Grammar) (ns : X → List ℕ) (read : List ℕ → Part X) (numbers : Y → List ℕ) (before : List ℕ) (next : X × List ℕ → Part Y)
     → IsReader p ns read → ((x : X) → Ends q numbers (before ++ ns x) (λ tail. next (x, tail))) → Ends (λ rest. p (q rest)) numbers before (λ bytes. read bytes >>= next)
@@ -85,8 +89,14 @@ chain {X} {Y} p q ns read numbers before next first others = record {
         let same : e ≡ f = cc in
         first.bad bytes e fits got (q rest) total ∙ ap (λ (x : Fault). Some (placed total x)) same
 
-abbrev gave : {A : Type 0} → A → Result A Fault
+abbrev pub gave : {A : Type 0} → A → Result A Fault
 gave a = Ok a
+
+-- parts that were read alike, and what they leave, are the same
+pub parted : {X : Type 0} (x y : X) (a b : List ℕ) → gave {A = X × List ℕ} (x, a) ≡ gave {A = X × List ℕ} (y, b) → (x ≡ y) × (a ≡ b)
+parted {X} x y a b e =
+    let p : (x, a) ≡ (y, b) = cc in
+    (ap (λ (z : X × List ℕ). z.0) p, ap (λ (z : X × List ℕ). z.1) p)
 
 -- nothing is left to read
 pub finish : {X : Type 0} (numbers : X → List ℕ) (before : List ℕ) (x : X) → numbers x ≡ before → Ends (λ rest. rest) numbers before (λ tail. Ok (x, tail))
@@ -96,11 +106,6 @@ finish {X} numbers before x same = record {
       ([], ap numbers (sym pair.0) ∙ same ∙ sym (append-nil before), subst (λ (l : List ℕ). Reads (λ rest. rest) [] bytes l) pair.1 (reads_nothing bytes fits)));
   bad = λ bytes f fits is rest total. absurd cc;
 }
-  where
-    parted : (x y : X) (a b : List ℕ) → gave {A = X × List ℕ} (x, a) ≡ gave {A = X × List ℕ} (y, b) → (x ≡ y) × (a ≡ b)
-    parted x y a b e =
-        let p : (x, a) ≡ (y, b) = cc in
-        (ap (λ (z : X × List ℕ). z.0) p, ap (λ (z : X × List ℕ). z.1) p)
 
 -- ---- readers of all of the bytes
 

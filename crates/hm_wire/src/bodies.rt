@@ -2,12 +2,14 @@ ghost use Rattle.std.specs.Prelude.{◌≡◌, []};
 ghost use Rattle.hm_wire.specs.Reading as reading;
 ghost use Rattle.hm_wire.specs.Reading.{Gives};
 
-use crate::fault::Fault;
+use crate::fault::{Fault, SHORT};
 use crate::fields::{u8_within, u32_at, u64_at};
 use crate::lists::{entries_at, members_at};
 use crate::malformed::Reason;
-use crate::parts::{answer_at, stamp_at, value_at};
+use crate::parts::{stamp_at, value_bytes_at};
 use hm_base::entries::PageRoom;
+use hm_base::operation::Answer;
+use hm_base::value::Value;
 use hm_packet::body::{
     Ask, Config, Done, FastRead, FeedAck, Known, NormalRead, Pull, Put, Read, Refuse, Refused,
     Reply, StartViewChange, Vote, Write,
@@ -49,17 +51,14 @@ pub fn write_at(bytes: &[u8]) -> Result<(Write, &[u8]), Fault>
 {
     let (request, rest) = u64_at(bytes)?;
     let (object, rest) = u32_at(rest)?;
-    match value_at(rest) {
-        Ok((value, rest)) => {
-            let write = Write {
-                request,
-                object,
-                value,
-            };
-            Ok((write, rest))
-        }
-        Err(fault) => Err(fault),
-    }
+    let (front, rest) = value_bytes_at(rest)?;
+    let value = Value::from_slice(front).unwrap();
+    let write = Write {
+        request,
+        object,
+        value,
+    };
+    Ok((write, rest))
 }
 
 #[tactic(auto, unfolding(crate::specs::Reading::put_at))]
@@ -71,19 +70,16 @@ pub fn put_at(bytes: &[u8]) -> Result<(Put, &[u8]), Fault>
     let (client, rest) = u32_at(rest)?;
     let (request, rest) = u64_at(rest)?;
     let (object, rest) = u32_at(rest)?;
-    match value_at(rest) {
-        Ok((value, rest)) => {
-            let put = Put {
-                stamp,
-                client,
-                request,
-                object,
-                value,
-            };
-            Ok((put, rest))
-        }
-        Err(fault) => Err(fault),
-    }
+    let (front, rest) = value_bytes_at(rest)?;
+    let value = Value::from_slice(front).unwrap();
+    let put = Put {
+        stamp,
+        client,
+        request,
+        object,
+        value,
+    };
+    Ok((put, rest))
 }
 
 #[tactic(auto, unfolding(crate::specs::Reading::fast_read_at))]
@@ -136,25 +132,39 @@ pub fn done_at(bytes: &[u8]) -> Result<(Done, &[u8]), Fault>
     Ok((done, rest))
 }
 
-#[tactic(auto, unfolding(crate::specs::Reading::reply_at))]
+#[tactic(auto, unfolding(crate::specs::Reading::reply_at, crate::specs::Reading::answer_at))]
 #[inline(always)]
 pub fn reply_at(bytes: &[u8]) -> Result<(Reply, &[u8]), Fault>
     ensures { Gives (λ x. (x.0, x.1.now)) result (reading.reply_at bytes.now) }
 {
     let (request, rest) = u64_at(bytes)?;
     let (version, rest) = stamp_at(rest)?;
-    match answer_at(rest) {
-        Ok((answer, rest)) => {
-            let reply = Reply {
-                request,
-                version,
-                answer,
-            };
-            Ok((reply, rest))
-        }
-        Err(fault) => Err(fault),
+    let (tag, rest) = u8_within(rest, 0, 2, Reason::Range)?;
+    if tag == 2 {
+        let (front, rest) = value_bytes_at(rest)?;
+        let value = Value::from_slice(front).unwrap();
+        let reply = Reply {
+            request,
+            version,
+            answer: Answer::Found(value),
+        };
+        return Ok((reply, rest));
     }
+    let answer = if tag == 0 {
+        Answer::Wrote
+    } else {
+        Answer::Nothing
+    };
+    let reply = Reply {
+        request,
+        version,
+        answer,
+    };
+    Ok((reply, rest))
 }
+
+/// How many bytes the fields of a feed have at least: its numbers and the number of its entries.
+const MIN_FEED_LEN: usize = 17;
 
 /// Reads the fields of a feed, its entries into the empty page.
 #[tactic(auto, unfolding(crate::specs::Reading::feed_at))]
@@ -162,6 +172,9 @@ pub fn feed_at<'a>(bytes: &'a [u8], entries: &mut PageRoom) -> Result<(FeedField
     requires { entries.old ≡ [] }
     ensures { Gives (λ x. (record { view = x.0.view; start = x.0.start; first = x.0.first; commit = x.0.commit; entries = entries.new }, x.1.now)) result (reading.feed_at bytes.now) }
 {
+    if bytes.len() < MIN_FEED_LEN {
+        return Err(SHORT);
+    }
     let (view, rest) = u32_at(bytes)?;
     let (start, rest) = u32_at(rest)?;
     let (first, rest) = u32_at(rest)?;

@@ -1,16 +1,62 @@
-ghost use Rattle.std.specs.Prelude.{[], ◌≡◌, ◌≤◌, ◌<◌, All};
+ghost use Rattle.std.specs.Prelude.{[], ◌≡◌, ◌≤◌, ◌<◌, length, All};
+ghost use Rattle.hm_base.specs.Logs.{max_page_len};
 ghost use Rattle.hm_wire.specs.Reading as reading;
 ghost use Rattle.hm_wire.specs.Reading.{Gives, with_front, rising_at};
 
 use crate::fault::{Fault, SHORT};
-use crate::fields::u8_within;
+use crate::fields::{u8_within, u32_at, u64_at};
 use crate::malformed::Reason;
-use crate::parts::entry_at;
+use crate::parts::{stamp_at, value_bytes_at};
 use hm_base::entries::PageRoom;
+use hm_base::entry::{Act, Entry};
 use hm_base::members::Members;
+use hm_base::value::Value;
+
+/// How many bytes an entry has at least: its numbers and the tag of its act.
+const MIN_ENTRY_LEN: usize = 29;
+
+/// Reads an entry and puts it behind the others. No number before its act can be at fault but by its end, so one test of the
+/// number of bytes serves them all.
+#[tactic(auto, unfolding(crate::specs::Reading::many_at, crate::specs::Reading::entry_at, crate::specs::Reading::act_at))]
+#[inline(always)]
+fn push_entry<'a>(bytes: &'a [u8], entries: &mut PageRoom) -> Result<&'a [u8], Fault>
+    requires room { length entries.old < max_page_len }
+    ensures { Gives (λ rest. (entries.new, rest.now)) result (with_front entries.old (reading.many_at 1 bytes.now)) }
+{
+    if bytes.len() < MIN_ENTRY_LEN {
+        return Err(SHORT);
+    }
+    let (stamp, rest) = stamp_at(bytes)?;
+    let (client, rest) = u32_at(rest)?;
+    let (request, rest) = u64_at(rest)?;
+    let (object, rest) = u32_at(rest)?;
+    let (tag, rest) = u8_within(rest, 0, 1, Reason::Range)?;
+    if tag == 1 {
+        let entry = Entry {
+            stamp,
+            client,
+            request,
+            object,
+            act: Act::Look,
+        };
+        entries.try_push(entry).unwrap();
+        return Ok(rest);
+    }
+    let (front, rest) = value_bytes_at(rest)?;
+    let value = Value::from_slice(front).unwrap();
+    let entry = Entry {
+        stamp,
+        client,
+        request,
+        object,
+        act: Act::Put(value),
+    };
+    entries.try_push(entry).unwrap();
+    Ok(rest)
+}
 
 /// Reads so many entries into the empty page, and answers the bytes after them.
-#[inline]
+#[inline(always)]
 fn many_at<'a>(count: u8, bytes: &'a [u8], entries: &mut PageRoom) -> Result<&'a [u8], Fault>
     requires fits { count ≤ 16 }
     requires empty { entries.old ≡ [] }
@@ -18,13 +64,8 @@ fn many_at<'a>(count: u8, bytes: &'a [u8], entries: &mut PageRoom) -> Result<&'a
 {
     let mut rest = bytes;
     for _ in 0..count {
-        match entry_at(rest) {
-            Ok((entry, after)) => {
-                if entries.try_push(entry).is_err() {
-                    return Err(SHORT);
-                }
-                rest = after;
-            }
+        match push_entry(rest, entries) {
+            Ok(after) => rest = after,
             Err(fault) => return Err(fault),
         }
     }
@@ -33,6 +74,7 @@ fn many_at<'a>(count: u8, bytes: &'a [u8], entries: &mut PageRoom) -> Result<&'a
 
 /// Reads a page into the empty page: the number of its entries, and the entries. It answers the bytes after them.
 #[tactic(auto, unfolding(crate::specs::Reading::entries_at))]
+#[inline(always)]
 pub fn entries_at<'a>(bytes: &'a [u8], entries: &mut PageRoom) -> Result<&'a [u8], Fault>
     requires { entries.old ≡ [] }
     ensures { Gives (λ rest. (entries.new, rest.now)) result (reading.entries_at bytes.now) }

@@ -7,11 +7,8 @@ ghost use Rattle.hm_wire.specs.Reading.{Gives};
 use crate::fault::{Fault, SHORT};
 use crate::fields::{u8_within, u32_at, u32_up_to, u64_at};
 use crate::malformed::Reason;
-use hm_base::entry::{Act, Entry};
 use hm_base::node::Node;
-use hm_base::operation::Answer;
 use hm_base::stamp::Stamp;
-use hm_base::value::Value;
 
 /// Reads a node.
 #[tactic(auto, unfolding(crate::specs::Reading::node_at))]
@@ -65,74 +62,4 @@ pub fn value_bytes_at(bytes: &[u8]) -> Result<(&[u8], &[u8]), Fault>
         return Err(SHORT);
     }
     Ok(rest.split_at(len))
-}
-
-/// Reads a value.
-#[inline(always)]
-pub fn value_at(bytes: &[u8]) -> Result<(Value, &[u8]), Fault>
-    ensures { Gives (λ x. (x.0, x.1.now)) result (reading.value_at bytes.now) }
-{
-    let (front, rest) = value_bytes_at(bytes)?;
-    match Value::from_slice(front) {
-        Some(value) => Ok((value, rest)),
-        None => Err(SHORT),
-    }
-}
-
-/// Reads an answer: its tag, and the value that was found.
-#[tactic(auto, unfolding(crate::specs::Reading::answer_at))]
-#[inline(always)]
-pub fn answer_at(bytes: &[u8]) -> Result<(Answer, &[u8]), Fault>
-    ensures { Gives (λ x. (x.0, x.1.now)) result (reading.answer_at bytes.now) }
-{
-    let (tag, rest) = u8_within(bytes, 0, 2, Reason::Range)?;
-    match tag {
-        0 => Ok((Answer::Wrote, rest)),
-        1 => Ok((Answer::Nothing, rest)),
-        _ => match value_at(rest) {
-            Ok((value, rest)) => Ok((Answer::Found(value), rest)),
-            Err(fault) => Err(fault),
-        },
-    }
-}
-
-/// Reads what an entry does: its tag, and the value that it puts.
-#[tactic(auto, unfolding(crate::specs::Reading::act_at))]
-#[inline(always)]
-pub fn act_at(bytes: &[u8]) -> Result<(Act, &[u8]), Fault>
-    ensures { Gives (λ x. (x.0, x.1.now)) result (reading.act_at bytes.now) }
-{
-    let (tag, rest) = u8_within(bytes, 0, 1, Reason::Range)?;
-    match tag {
-        0 => match value_at(rest) {
-            Ok((value, rest)) => Ok((Act::Put(value), rest)),
-            Err(fault) => Err(fault),
-        },
-        _ => Ok((Act::Look, rest)),
-    }
-}
-
-/// Reads an entry.
-#[tactic(auto, unfolding(crate::specs::Reading::entry_at))]
-#[inline(always)]
-pub fn entry_at(bytes: &[u8]) -> Result<(Entry, &[u8]), Fault>
-    ensures { Gives (λ x. (x.0, x.1.now)) result (reading.entry_at bytes.now) }
-{
-    let (stamp, rest) = stamp_at(bytes)?;
-    let (client, rest) = u32_at(rest)?;
-    let (request, rest) = u64_at(rest)?;
-    let (object, rest) = u32_at(rest)?;
-    match act_at(rest) {
-        Ok((act, rest)) => {
-            let entry = Entry {
-                stamp,
-                client,
-                request,
-                object,
-                act,
-            };
-            Ok((entry, rest))
-        }
-        Err(fault) => Err(fault),
-    }
 }
