@@ -13,6 +13,7 @@ use crate::message::Message;
 use hm_outside::adapters::{ReaderSource, WriterSink};
 use hm_replay::replay::run;
 use hm_replay::status::Status;
+use std::alloc::Global;
 use std::env;
 use std::io::{BufWriter, Error, ErrorKind, Write};
 use std::process::ExitCode;
@@ -40,9 +41,19 @@ fn flushed<W: Write + Drop>(output: &mut BufWriter<W>, status: Status) -> Status
     }
 }
 
+/// How many bytes an area has at most that is served from the allocator's heap: somewhat more than those of a log.
+const HEAP_AREA_LEN: usize = 1_740_000;
+
+/// Has the C library's allocator serve areas of up to [`HEAP_AREA_LEN`] bytes from its heap, and not by a mapping of its own each:
+/// it does so once such an area was given back. A world has a handful for each replica.
+fn keep_areas_in_heap(alloc: Global) {
+    let _area: Result<Vec<u8>, _> = Vec::with_capacity(alloc, HEAP_AREA_LEN);
+}
+
 /// Runs the program, and answers how it ended.
 fn status(rt: &HostRuntime) -> Status {
     let alloc = rt.alloc();
+    keep_areas_in_heap(alloc);
     let words = match env::args(rt) {
         Ok(words) => words,
         Err(error) => return refusal(&error),

@@ -61,11 +61,15 @@ impl Observer {
         ensures ok { OnOk result (self.new ≡ record self.old { cap = cap; limit = length self.old.history + cap + 1 }) }
         ensures err { OnErr result (self.new ≡ self.old) }
     {
+        let limit = self.history.marks().len() + cap as usize + 1;
+        if self.cap == cap && self.limit == limit {
+            return Ok(());
+        }
         self.history.reserve(cap + 1)?;
         let len = self.declared.len();
         self.declared.reserve((cap as usize).saturating_sub(len))?;
         self.cap = cap;
-        self.limit = self.history.marks().len() + cap as usize + 1;
+        self.limit = limit;
         Ok(())
     }
 

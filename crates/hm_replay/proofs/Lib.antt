@@ -3,4 +3,5 @@ mod Progress
 mod Complete
 mod Items
 mod Putting
+mod Forming
 mod Summing

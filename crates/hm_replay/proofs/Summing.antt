@@ -1,11 +1,11 @@
 -- The run of a made schedule, and its summary.
-use Rattle.std.proofs.Common.{◌≡◌, ℕ, ◌+◌, ◌<◌, List, [], ◌∷◌, ◌++◌, length, drop, Option, Some, None, refl, sym, ap, subst, ◌∙◌, append_assoc, arith}
+use Rattle.std.proofs.Common.{◌≡◌, ℕ, ◌+◌, ◌<◌, List, [], ◌∷◌, ◌++◌, length, drop, Some, None, refl, sym, ap, subst, ◌∙◌, append_assoc, arith}
 use Rattle.std.specs.Prelude.{slice_get, map, fold, filter_map, codes}
 use Rattle.std.proofs.lemmas.List.{append-nil, length-append}
 use Rattle.hm_base.specs.declared.node.GroupKind.{GroupKind}
-use Rattle.hm_base.specs.declared.node.GroupKind.TheVariants.{Chain}
 use Rattle.hm_packet.specs.declared.outcome.Outcome.{Outcome}
-use Rattle.hm_order.specs.Order.{order}
+use Rattle.hm_group_laws.specs.Groups.{CanForm}
+use Rattle.hm_order.specs.declared.mark.Mark.{Mark}
 use Rattle.hm_rules.specs.Events as rule
 use Rattle.hm_rules.specs.World.{World, opens}
 use Rattle.hm_rules.specs.Runs.{Slotted, slotted, run, outcomes, full_events}
@@ -15,6 +15,7 @@ use Rattle.hm_refusal_laws.specs.Slotting.{slot_happens, slot_step, slot_run}
 use Rattle.hm_schedule.specs.Generators.{IsGroupThenEvents}
 use Rattle.hm_schedule.specs.Limits.{max_events}
 use Rattle.hm_schedule.specs.Orders.{default_setup, set_by, setup_in, event_in, events_in}
+use Rattle.hm_schedule.specs.Schedules.{IsLawfulGroup}
 use Rattle.hm_schedule.specs.Setups.{event_of}
 use Rattle.hm_schedule.specs.declared.event.Event.{Event}
 use Rattle.hm_schedule.specs.declared.line.Line.{Line}
@@ -22,6 +23,7 @@ use Rattle.hm_schedule.specs.declared.line.Line.TheVariants as line
 use Rattle.hm_world.specs.WorldFields.{Held, with_slots}
 use Rattle.hm_replay.specs.Summaries.{counts_of, counts_text, summary_of}
 use Rattle.hm_replay.specs.declared.summary.Counts.{Counts}
+use Rattle.hm_replay.proofs.Forming.{lawful_forms}
 
 abbrev pub begun : GroupKind → ℕ → Slotted
 begun kind size = slotted (opens (default_setup kind size))
@@ -66,24 +68,12 @@ pub starts : (kind : GroupKind) (size : ℕ) (whole left : List Line) (w : Held)
 starts kind size whole left w counts made behind opened none counted =
     record { done = []; rest = made.events; parts = made.parts; left_are = behind ∙ ap (drop 1) made.parts; state = opened; events_are = none; counted = counted }
 
--- the next event, if one is left
-pub next_is : (kind : GroupKind) (size : ℕ) (whole left : List Line) (w : Held) (counts : Counts) → Running kind size whole left w counts → (events : List Event) × (left ≡ map line.Event events)
-next_is kind size whole left w counts r = (r.rest, r.left_are)
-
 some_left : (e : Event) (none : List Event) → none ≡ [] → Some e ≡ slice_get none 0 → ⊥
 some_left e [] is same = cc
 some_left e (x ∷ xs) is same = cc
 
 same_event : (e x : Event) → Some e ≡ Some x → e ≡ x
 same_event e x same = cc
-
--- fewer lines are left behind one
-pub smaller : (left now : List Line) (rest : List Event) (e : Event) → Some e ≡ slice_get rest 0 → left ≡ map line.Event rest → now ≡ map line.Event (drop 1 rest) → length now < length left
-smaller left now [] e first before behind = absurd (some_left e [] refl first)
-smaller left now (x ∷ xs) e first before behind =
-    let one : length left ≡ length (line.Event x ∷ map line.Event xs) = ap length before in
-    let two : length now ≡ length (map line.Event xs) = ap length behind in
-    omega arith
 
 few_of : (done rest : List Event) (e : Event) (events : ℕ) → Some e ≡ slice_get rest 0 → length (map line.Event (done ++ rest)) ≡ max_events → events ≡ length done → events < max_events
 few_of done [] e events first size is = absurd (some_left e [] refl first)
@@ -156,6 +146,14 @@ counts_are ends = joins (count_line (codes "events") (length ends)) (outcomes_li
 
 module _ (same : (setup : rule.Setup) (es : List rule.Event) → outcomes (opens setup) es (full_events setup es) ≡ slot_outcomes (slotted (opens setup)) es)
     (world : (setup : rule.Setup) (es : List rule.Event) → run (opens setup) es (full_events setup es) ≡ (slot_run (slotted (opens setup)) es).world) where
+  -- what holds of the history of every run holds at the end of this one
+  pub holds_at_end : (P : List Mark → Type 0) (holds : (setup : rule.Setup) (es : List rule.Event) (refused : List ℕ) → CanForm setup → P (run (opens setup) es refused).history)
+      (kind : GroupKind) (size : ℕ) (whole left : List Line) (w : Held) (counts : Counts) → IsLawfulGroup kind size → Running kind size whole left w counts → P w.world.history
+  holds_at_end P holds kind size whole left w counts lawful r =
+      let setup = default_setup kind size in
+      let es = map event_of r.done in
+      subst (λ (v : World). P v.history) (world setup es ∙ sym (ap (λ (s : Slotted). s.world) r.state)) (holds setup es (full_events setup es) (lawful_forms setup lawful))
+
   -- the summary of a run with this setup and these events
   summary_is : (kind : GroupKind) (size : ℕ) (es : List Event)
       → summary_of (line.Group kind size ∷ map line.Event es) ≡ outcome_counts (slot_outcomes (begun kind size) (map event_of es)) ++ world_counts (slot_run (begun kind size) (map event_of es)).world

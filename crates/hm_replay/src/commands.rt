@@ -1,8 +1,6 @@
 //! Commands that read nothing: a schedule is made of a number.
 
-ghost use Rattle.std.specs.Prelude.{◌≡◌, List, drop, map, slice_get, IfOk};
-ghost use Rattle.hm_schedule.specs.declared.event.Event.{Event};
-ghost use Rattle.hm_schedule.specs.declared.line.Line.TheVariants as line;
+ghost use Rattle.std.specs.Prelude.{◌≡◌, IfOk};
 ghost use Rattle.hm_replay.specs.Commands.{IsMade, made_lines};
 ghost use Rattle.hm_replay.specs.Summaries.{summary_of};
 ghost use Rattle.hm_replay.specs.Written.{EndsWriting};
@@ -13,13 +11,13 @@ use crate::summary::{Counts, write_end, write_outcomes};
 use crate::words::Made;
 use hm_base::buffer::Text;
 use hm_base::memory::NoMemory;
+use hm_count_law::counts::ordered_count;
+use hm_group_laws::groups::every_group_is_linearizable;
 use hm_outside::device::{Sink, put_all};
 use hm_outside::law::calls_add_up;
 use hm_refusal_laws::outcomes::outcomes_are_the_slotted_runs;
 use hm_refusal_laws::refusals::{full_events_are_the_refusals, slotted_run_goes_on};
-use hm_schedule::event::Event;
 use hm_schedule::generator::{Generator, generated_is_a_schedule};
-use hm_schedule::line::Line;
 use hm_schedule::stage::default_setup;
 use hm_schedule::write_line::write_line;
 use hm_world::world::World;
@@ -78,16 +76,17 @@ fn summary(alloc: Global, made: Made) -> Result<Text, NoMemory>
     full_events_are_the_refusals();
     outcomes_are_the_slotted_runs();
     slotted_run_goes_on();
+    every_group_is_linearizable();
     let Ok(mut world) = World::open(alloc, &default_setup(made.kind, made.size)) else {
         return Err(NoMemory);
     };
     let mut generator = Generator::open(made.number, made.kind, made.size);
     let _group = generator.next_line();
     let mut counts = Counts::none();
-    while let Some(event) = next_event(&mut generator) {
+    while let Some(event) = generator.next_event() {
         counts.add(world.event(&event)?);
     }
-    let ordered = world.history().order(alloc)?.len();
+    let ordered = ordered_count(world.history().marks());
     let mut text = Text::new(alloc);
     write_outcomes(world.events(), &counts, &mut text)?;
     write_end(
@@ -97,16 +96,4 @@ fn summary(alloc: Global, made: Made) -> Result<Text, NoMemory>
         &mut text,
     )?;
     Ok(text)
-}
-
-/// The next event of a made schedule whose group was taken. None exactly where none is left.
-fn next_event(generator: &mut Generator) -> Option<Event>
-    requires { (events : List Event) × (generator.old ≡ map line.Event events) }
-    ensures event { (events : List Event) → generator.old ≡ map line.Event events → result ≡ slice_get events 0 }
-    ensures rest { (events : List Event) → generator.old ≡ map line.Event events → generator.new ≡ map line.Event (drop 1 events) }
-{
-    match generator.next_line()? {
-        Line::Event(event) => Some(event),
-        Line::Group { .. } | Line::Table { .. } | Line::Life(_) | Line::Log(_) => None,
-    }
 }

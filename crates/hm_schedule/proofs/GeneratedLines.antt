@@ -1,8 +1,8 @@
 -- What is made of a number is a schedule.
-use Rattle.std.proofs.Common.{◌≡◌, ℕ, zero, suc, ◌+◌, ◌-◌, ◌/◌, ◌%◌, ◌<◌, ◌≤◌, List, [], ◌∷◌, length, drop, refl, ap, arith, lit≤, add-one}
-use Rattle.std.specs.Prelude.{◌==◌, slice_get, Some, map}
+use Rattle.std.proofs.Common.{◌≡◌, ℕ, zero, suc, ◌+◌, ◌-◌, ◌/◌, ◌%◌, ◌<◌, ◌≤◌, List, [], ◌∷◌, length, drop, inl, inr, refl, sym, ap, ◌∙◌, arith, lit≤, add-one}
+use Rattle.std.specs.Prelude.{◌==◌, slice_get, Option, Some, None, map}
 use Rattle.std.specs.Int.{w16, to_be_bytes}
-use Rattle.std.proofs.lemmas.Bool.{cond_both, cond-true, cond-false, eq-eqb, ne_eqb}
+use Rattle.std.proofs.lemmas.Bool.{cond_both, cond-true, cond-false, eq-eqb, ne_eqb, cases_eq}
 use Rattle.hex.specs.Hex.{IsBytes}
 use Rattle.hm_base.specs.declared.node.GroupKind.{GroupKind}
 use Rattle.hm_base.specs.declared.node.GroupKind.TheVariants as kind
@@ -136,3 +136,46 @@ left_behind_group g some = cond-false (g.given == 0) (generated g.state g.kind g
 
 pub left_at_first : (g : Inside) → g.given ≡ 0 → lines_left g ≡ generated g.state g.kind g.size
 left_at_first g none = cond-true (g.given == 0) (generated g.state g.kind g.size) (events_from g.kind g.size g.given g.state (max_events + 1 - g.given)) (eq-eqb g.given 0 none)
+
+-- of a generator whose lines are all events
+
+abbrev event_ahead : List Line → Option Event
+event_ahead [] = None
+event_ahead (line.Event e ∷ lines) = Some e
+event_ahead (other ∷ lines) = None
+
+event_ahead-map : (events : List Event) → event_ahead (map line.Event events) ≡ slice_get events 0
+event_ahead-map [] = refl
+event_ahead-map (e ∷ es) = refl
+
+event_ahead-events : (k : GroupKind) (size number state n : ℕ) → 0 < n → event_ahead (events_from k size number state n) ≡ Some (event_from k size number state)
+unfolding events_from
+event_ahead-events k size number state zero some = absurd (omega arith)
+event_ahead-events k size number state (suc n) some = refl
+
+pub first_event : (k : GroupKind) (size number state n : ℕ) (events : List Event) → 0 < n → events_from k size number state n ≡ map line.Event events → Some (event_from k size number state) ≡ slice_get events 0
+first_event k size number state n events some are = sym (event_ahead-events k size number state n some) ∙ ap event_ahead are ∙ event_ahead-map events
+
+pub events_but_first : (events : List Event) → drop 1 (map line.Event events) ≡ map line.Event (drop 1 events)
+events_but_first [] = refl
+events_but_first (e ∷ es) = refl
+
+pub no_events : (events : List Event) → map line.Event events ≡ [] → events ≡ []
+no_events [] none = refl
+no_events (e ∷ es) none = cc
+
+group_ahead : (number : ℕ) (k : GroupKind) (size : ℕ) (events : List Event) → generated number k size ≡ map line.Event events → ⊥
+group_ahead number k size [] are = let front : Some (line.Group k size) ≡ slice_get [] 0 = sym (generated_front number k size) ∙ ap (λ (l : List Line). slice_get l 0) are in cc
+group_ahead number k size (e ∷ es) are = let front : Some (line.Group k size) ≡ Some (line.Event e) = sym (generated_front number k size) ∙ ap (λ (l : List Line). slice_get l 0) are in cc
+
+-- the group's line was given
+pub past_group : (g : Inside) (events : List Event) → lines_left g ≡ map line.Event events → 0 < g.given
+past_group g events are = elim (cases_eq g.given 0) [
+  | inl none ↦ absurd (group_ahead g.state g.kind g.size events (sym (left_at_first g none) ∙ are))
+  | inr some ↦ omega (arith, some)
+]
+
+-- nothing is left
+pub none_left : (g : Inside) (events : List Event) → lines_left g ≡ map line.Event events → max_events < g.given → events ≡ []
+none_left g events are past =
+    no_events events (sym are ∙ left_behind_group g (omega (arith, past)) ∙ events_over g.kind g.size g.given g.state (max_events + 1 - g.given) (omega (arith, past)))

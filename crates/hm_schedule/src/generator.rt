@@ -1,6 +1,8 @@
-ghost use Rattle.std.specs.Prelude.{◌≡◌, ◌+◌, ◌^◌, ◌<◌, ℕ, List, length, drop, slice_get, IfSome};
+ghost use Rattle.std.specs.Prelude.{◌≡◌, ◌+◌, ◌^◌, ◌<◌, ℕ, List, length, drop, map, slice_get, IfSome};
 ghost use Rattle.std.specs.Int.{w16, to_be_bytes};
 ghost use Rattle.hm_base.specs.declared.node.GroupKind.{GroupKind};
+ghost use Rattle.hm_schedule.specs.declared.event.Event.{Event};
+ghost use Rattle.hm_schedule.specs.declared.line.Line.TheVariants as line;
 ghost use Rattle.hm_schedule.specs.Generators.{IsGroupThenEvents};
 ghost use Rattle.hm_schedule.specs.Generated.{next_state, draw_of, choice_at, timeout_made, event_made, event_from, generated};
 ghost use Rattle.hm_schedule.specs.Limits.{max_events};
@@ -105,6 +107,22 @@ impl Generator {
         let event = next_event(self.kind, self.size, number, &mut self.state);
         Some(Line::Event(event))
     }
+
+    /// The next event, where the group's line was given. None exactly where the last event was given.
+    #[inline(always)]
+    pub fn next_event(&mut self) -> Option<Event>
+        requires { (events : List Event) × (self.old ≡ map line.Event events) }
+        ensures event { (events : List Event) → self.old ≡ map line.Event events → result ≡ slice_get events 0 }
+        ensures rest { (events : List Event) → self.old ≡ map line.Event events → self.new ≡ map line.Event (drop 1 events) }
+    {
+        let number = self.given;
+        if number > MAX_EVENTS {
+            return None;
+        }
+        self.given += 1;
+        let event = next_event(self.kind, self.size, number, &mut self.state);
+        Some(event)
+    }
 }
 
 /// What is made of a number is a schedule, of a group's line and [`MAX_EVENTS`] events.
@@ -115,6 +133,7 @@ pub fn generated_is_a_schedule()
 {}
 
 /// The event of this number, made by two draws.
+#[inline(always)]
 fn next_event(kind: GroupKind, size: u8, number: u32, state: &mut u64) -> Event
     requires size { 0 < size }
     requires number { 0 < number }

@@ -1,14 +1,14 @@
-use Rattle.std.proofs.Common.{◌≡◌, ◌+◌, ◌<◌, ◌++◌, List, [], ℕ, length, drop, sym, ap, ◌∙◌}
+use Rattle.std.proofs.Common.{◌≡◌, ◌++◌, List, ℕ, length, drop, sym, ap, subst, ◌∙◌}
+use Rattle.hm_order.specs.declared.mark.Mark.{Mark}
+use Rattle.hm_order.specs.Legal.{IsWellFormed, AllDue}
 use Rattle.hm_order.specs.Order.{order}
 use Rattle.hm_rules.specs.Events as rule
 use Rattle.hm_rules.specs.World.{opens}
-use Rattle.hm_rules.specs.RunText.{world_counts}
 use Rattle.hm_rules.specs.Runs.{slotted}
 use Rattle.hm_schedule.specs.declared.line.Line.{Line}
-use Rattle.hm_schedule.specs.Limits.{max_events}
 use Rattle.hm_replay.specs.Commands.{made_lines}
 use Rattle.hm_replay.specs.Summaries.{counts_text}
-use Rattle.hm_replay.proofs.Summing.{starts, few, ends_so_far, steps, summed}
+use Rattle.hm_replay.proofs.Summing.{starts, few, ends_so_far, steps, holds_at_end, summed}
 use Rattle.hm_replay.proofs.commands.summary.Goals as goal
 
 pub loop-event-init : goal.loop-event-init
@@ -32,8 +32,14 @@ loop-event-preserved c =
 pub returns : goal.returns
 returns c =
     let r = c.loop-event.invariant in
+    let w = c.loop-event.world.world in
+    let marks : w.history ≡ c.marks.result.now = sym (c.marks.ensures ∙ c.history.ensures) in
+    let formed = holds_at_end c.outcomes_are_the_slotted_runs.ensures.same c.full_events_are_the_refusals.ensures.world IsWellFormed c.every_group_is_linearizable.ensures.formed
+    c.args.made.kind c.args.made.size (made_lines c.args.made) _ c.loop-event.world c.loop-event.counts c.requires.of_group r in
+    let due = holds_at_end c.outcomes_are_the_slotted_runs.ensures.same c.full_events_are_the_refusals.ensures.world AllDue c.every_group_is_linearizable.ensures.due
+    c.args.made.kind c.args.made.size (made_lines c.args.made) _ c.loop-event.world c.loop-event.counts c.requires.of_group r in
+    let ordered = c.ordered_count-ordered.ensures (subst IsWellFormed marks formed) (subst AllDue marks due) in
     summed c.outcomes_are_the_slotted_runs.ensures.same c.full_events_are_the_refusals.ensures.world c.args.made.kind c.args.made.size (made_lines c.args.made) _ c.loop-event.world c.loop-event.counts
     _ _ r (c.in_default-next_event.ensures.event r.rest r.left_are)
     (c.in_ok-write_outcomes.ensures ∙ ap (λ (t : List ℕ). t ++ counts_text c.events.result c.loop-event.counts) c.new-text.ensures ∙ ap (λ (n : ℕ). counts_text n c.loop-event.counts) c.events.ensures)
-    (c.in_ok-write_end.ensures c.loop-event.world.world c.sent_count.ensures.count (c.marks.ensures ∙ c.history-2.ensures)
-    (c.len-ordered.ensures ∙ c.in_ok-order.field-0.ok.0 ∙ ap length (c.in_ok-order.ensures.order ∙ ap order c.history.ensures)))
+    (c.in_ok-write_end.ensures w c.sent_count.ensures.count (c.marks-2.ensures ∙ c.history-2.ensures) (ordered ∙ ap (λ (h : List Mark). length (order h)) (sym marks)))

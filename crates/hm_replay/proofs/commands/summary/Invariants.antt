@@ -1,4 +1,4 @@
-use Rattle.std.proofs.Common.{◌≡◌, length}
+use Rattle.std.proofs.Common.{length}
 use Rattle.hm_replay.specs.Commands.{made_lines}
 use Rattle.hm_replay.proofs.Summing.{Running}
 use Rattle.hm_replay.proofs.commands.summary.Given as goal

@@ -16,6 +16,7 @@ use Rattle.hm_schedule.specs.declared.line.LineReason.TheVariants as reason
 use Rattle.hm_schedule.specs.declared.refusal.Refusal.{Refusal}
 use Rattle.hm_schedule.specs.declared.refusal.Refusal.TheVariants as refusal
 use Rattle.hm_replay.specs.Replays.{events_text_of, full_in, refusal_text, ShowsFull}
+use Rattle.hm_replay.proofs.Forming.{lawful_forms}
 use Rattle.hm_replay.proofs.law.schedules_run_lawfully.Goals as goal
 
 fits : (n : ℕ) → n ≤ max_events → n < 2 ^ 32
@@ -53,11 +54,6 @@ by_refusal : (lines : List Line) (number : ℕ) (why : Refusal) → ((r : LineRe
     → ShowsFull lines (events_text_of lines ++ refusal_text number why)
 by_refusal lines number refusal.TooLong bad long = long
 by_refusal lines number (refusal.Bad r) bad long = bad r
-
-lawful_forms : (setup : Setup) → IsLawfulGroup setup.kind setup.size → CanForm setup
-lawful_forms setup lawful = λ vr.
-    let odd : setup.size % 2 ≡ 1 = (subst (λ (k : GroupKind). IsLawfulGroup k setup.size) vr lawful).0 in
-    omega (arith, odd)
 
 pub returns : goal.returns
 returns c = record {

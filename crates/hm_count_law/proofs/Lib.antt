@@ -1,0 +1,4 @@
+mod Distinct
+mod Ended
+mod Standing
+mod Lengths
