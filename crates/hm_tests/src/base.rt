@@ -54,33 +54,44 @@ fn reads_numbers_in_one_spelling(rt: HostRuntime) {
 
 #[test]
 fn reads_values_in_one_spelling(rt: HostRuntime) -> Result<(), Fail> {
-    let none = read_value(b"empty").ok_or("no bytes")?;
-    assert!(rt; none.as_slice().is_empty());
-    let some = read_value(b"00a9ff").ok_or("three bytes")?;
-    assert_eq!(rt; some.as_slice(), [0, 0xa9, 0xff].as_slice());
     let digits = [b'6'; 130];
-    let long = read_value(&digits[..128]).ok_or("64 bytes")?;
-    assert_eq!(rt; long.as_slice(), [0x66; 64].as_slice());
-    assert!(rt; read_value(&digits).is_none());
-    let refused: [&[u8]; 5] = [b"", b"6", b"A9", b"6g", b"EMPTY"];
+    let read: [(&[u8], &[u8]); 3] = [
+        (b"empty", &[]),
+        (b"00a9ff", &[0, 0xa9, 0xff]),
+        (&digits[..128], &[0x66; 64]),
+    ];
+    for (text, bytes) in read {
+        let value = read_value(text).ok_or("a value")?;
+        assert_eq!(rt; value.as_slice(), bytes);
+    }
+    let refused: [&[u8]; 6] = [b"", b"6", b"A9", b"6g", b"EMPTY", &digits];
     for text in refused {
         assert!(rt; read_value(text).is_none());
     }
     Ok(())
 }
 
+/// What it comes to that three replicas are put behind replica 2, and the members then.
+fn risen() -> Result<([Result<(), NotRising>; 3], Members), Fail> {
+    let mut members = Members::first(2).ok_or("a replica")?;
+    let pushed = [
+        members.try_push(2),
+        members.try_push(5),
+        members.try_push(7),
+    ];
+    Ok((pushed, members.copy()))
+}
+
 #[test]
 fn holds_members_in_rising_order(rt: HostRuntime) -> Result<(), Fail> {
     assert!(rt; Members::first(7).is_none());
-    let mut members = Members::first(2).ok_or("a replica")?;
-    assert_eq!(rt; members.try_push(2), Err(NotRising));
-    assert_eq!(rt; members.try_push(5), Ok(()));
-    assert_eq!(rt; members.try_push(7), Err(NotRising));
-    let copy = members.copy();
-    assert_eq!(rt; copy.as_slice(), [2, 5].as_slice());
-    assert_eq!(rt; copy.len(), 2);
-    assert_eq!(rt; copy.get(1), Some(5));
-    assert_eq!(rt; copy.get(2), None);
+    let (pushed, members) = risen()?;
+    assert_eq!(rt; pushed, [Err(NotRising), Ok(()), Err(NotRising)]);
+    assert_eq!(rt; members.as_slice(), [2, 5].as_slice());
+    assert_eq!(rt;
+        (members.len(), members.get(1), members.get(2)),
+        (2, Some(5), None)
+    );
     Ok(())
 }
 
@@ -109,30 +120,37 @@ fn holds_sixteen_entries(rt: HostRuntime) -> Result<(), Fail> {
     Ok(())
 }
 
-#[test]
-fn writes_words(rt: HostRuntime) -> Result<(), Fail> {
+/// Writes a word of each kind.
+fn spell(out: &mut Text) -> Result<(), Fail> {
     let value = Value::from_slice(&[0x61, 0x0f]).ok_or("a value")?;
     let none = Value::from_slice(&[]).ok_or("no bytes")?;
-    let mut out = Text::new(rt.alloc());
-    write_stamp(Stamp { switch: 1, seq: 9 }, &mut out)?;
+    write_stamp(Stamp { switch: 1, seq: 9 }, out)?;
     let op = OpId {
         client: 7,
         request: 10,
     };
-    write_op(op, &mut out)?;
-    write_answer(&Answer::Wrote, &mut out)?;
-    write_answer(&Answer::Nothing, &mut out)?;
-    write_answer(&Answer::Found(value), &mut out)?;
-    write_act(&Act::Put(none), &mut out)?;
-    write_act(&Act::Look, &mut out)?;
+    write_op(op, out)?;
+    for answer in [Answer::Wrote, Answer::Nothing, Answer::Found(value)] {
+        write_answer(&answer, out)?;
+    }
+    for act in [Act::Put(none), Act::Look] {
+        write_act(&act, out)?;
+    }
     for node in [
         Node::Client(7),
         Node::Switch(1),
         Node::Replica(0),
         Node::Config,
     ] {
-        write_node(node, &mut out)?;
+        write_node(node, out)?;
     }
+    Ok(())
+}
+
+#[test]
+fn writes_words(rt: HostRuntime) -> Result<(), Fail> {
+    let mut out = Text::new(rt.alloc());
+    spell(&mut out)?;
     assert_eq!(rt;
         out.as_slice(),
         b"1.97.10wrotenone610femptylookc7s1r0cfg".as_slice()

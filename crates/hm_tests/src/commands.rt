@@ -1,6 +1,7 @@
 //! Schedules that are made of a number, as the program's commands write and run them.
 
 use hm_base::buffer::Text;
+use hm_base::memory::NoMemory;
 use hm_base::node::GroupKind;
 use hm_base::value::Value;
 use hm_outside::memory::{MemorySink, MemorySource};
@@ -103,9 +104,17 @@ fn put(
     Ok(sink)
 }
 
+/// The text of lines.
+fn text_of(alloc: Global, lines: &[Line]) -> Result<Text, NoMemory> {
+    let mut text = Text::new(alloc);
+    for line in lines {
+        write_line(line, &mut text)?;
+    }
+    Ok(text)
+}
+
 #[test]
 fn writes_lines(rt: HostRuntime) -> Result<(), Fail> {
-    let mut text = Text::new(rt.alloc());
     let write = Event::Write {
         client: 7,
         object: 5,
@@ -116,7 +125,7 @@ fn writes_lines(rt: HostRuntime) -> Result<(), Fail> {
         client: 7,
         switch: 2,
     };
-    for line in [
+    let lines = [
         Line::Table { stages: 4, bits: 0 },
         Line::Life(4_194_304),
         Line::Log(1),
@@ -124,11 +133,9 @@ fn writes_lines(rt: HostRuntime) -> Result<(), Fail> {
         Line::Event(resend),
         Line::Event(Event::Next),
         Line::Event(Event::Timeout { replica: 6 }),
-    ] {
-        write_line(&line, &mut text)?;
-    }
+    ];
     assert_eq!(rt;
-        text.as_slice(),
+        text_of(rt.alloc(), &lines)?.as_slice(),
         b"table 4 0
 life 4194304
 log 1
@@ -139,43 +146,58 @@ timeout 6
 "
             .as_slice()
     );
+    Ok(())
+}
+
+#[test]
+fn reads_back_what_it_writes(rt: HostRuntime) -> Result<(), Fail> {
+    let mut text = Text::new(rt.alloc());
     let group = Line::Group {
         kind: GroupKind::Primary,
         size: 7,
     };
     assert_eq!(rt; read_back(&group, &mut text)?, Ok(group));
     assert_eq!(rt; text.as_slice(), b"group primary 7\n".as_slice());
-    assert_eq!(rt; write_back(b"read 8 5 2", &mut text)?, Ok(()));
+    Ok(())
+}
+
+#[test]
+fn writes_back_what_it_reads(rt: HostRuntime) -> Result<(), Fail> {
+    let mut text = Text::new(rt.alloc());
+    let written = write_back(b"read 8 5 2", &mut text)?;
+    let refused = write_back(b"rear 8 5 2", &mut Text::new(rt.alloc()))?;
+    assert_eq!(rt; (written, refused), (Ok(()), Err(LineReason::Word)));
     assert_eq!(rt; text.as_slice(), b"read 8 5 2\n".as_slice());
-    assert_eq!(rt;
-        write_back(b"rear 8 5 2", &mut text)?,
-        Err(LineReason::Word)
-    );
     Ok(())
 }
 
 #[test]
 fn reads_words(rt: HostRuntime) -> Result<(), Fail> {
-    assert_eq!(rt; read_group_words(b"vr", b"5"), Some((GroupKind::Vr, 5)));
-    assert_eq!(rt; read_group_words(b"vr", b"6"), None);
-    assert_eq!(rt; read_group_words(b"chain", b"8"), None);
+    let groups = (
+        read_group_words(b"vr", b"5"),
+        read_group_words(b"vr", b"6"),
+        read_group_words(b"chain", b"8"),
+    );
+    assert_eq!(rt; groups, (Some((GroupKind::Vr, 5)), None, None));
     let made = Made {
         number: 18_446_744_073_709_551_615,
         kind: GroupKind::Chain,
         size: 1,
     };
-    let alloc = rt.alloc();
-    let generate = words(alloc, "generate 18446744073709551615 chain 1")?;
-    assert_eq!(rt; read_command(&generate), Some(Command::Generate(made)));
-    for text in [
-        "generate 18446744073709551616 chain 1",
-        "generate -1 chain 1",
-        "schedule 01 chain 1",
-        "schedule 1 chains 1",
-        "schedule 1 chain",
-        "--help",
+    for (text, command) in [
+        (
+            "generate 18446744073709551615 chain 1",
+            Some(Command::Generate(made)),
+        ),
+        ("generate 18446744073709551616 chain 1", None),
+        ("generate -1 chain 1", None),
+        ("schedule 01 chain 1", None),
+        ("schedule 1 chains 1", None),
+        ("schedule 1 chain", None),
+        ("--help", None),
     ] {
-        assert_eq!(rt; read_command(&words(alloc, text)?), None);
+        let words = words(rt.alloc(), text)?;
+        assert_eq!(rt; read_command(&words), command);
     }
     Ok(())
 }
@@ -184,7 +206,6 @@ fn reads_words(rt: HostRuntime) -> Result<(), Fail> {
 fn writes_a_made_schedule(rt: HostRuntime) -> Result<(), Fail> {
     let alloc = rt.alloc();
     let text = put(&rt, alloc, "schedule 42 vr 7", b"", &[], Status::Done)?;
-    assert!(rt; text.as_slice().starts_with(FIRST_LINES));
     let cut = put(
         &rt,
         alloc,
@@ -193,21 +214,24 @@ fn writes_a_made_schedule(rt: HostRuntime) -> Result<(), Fail> {
         &[2],
         Status::WriteFault,
     )?;
-    assert!(rt; cut.as_slice().starts_with(FIRST_LINES));
-    assert!(rt; text.as_slice().starts_with(cut.as_slice()));
-    assert!(rt; cut.as_slice().len() < text.as_slice().len());
+    let (text, cut) = (text.as_slice(), cut.as_slice());
+    let begin = (text.starts_with(FIRST_LINES), cut.starts_with(FIRST_LINES));
+    let is_front = text.starts_with(cut) && cut.len() < text.len();
+    assert_eq!(rt; (begin, is_front), ((true, true), true));
     Ok(())
 }
 
 #[test]
 fn sums_made_schedules_up(rt: HostRuntime) -> Result<(), Fail> {
     let alloc = rt.alloc();
-    let chain = put(&rt, alloc, "generate 42 chain 3", b"", &[], Status::Done)?;
-    assert_eq!(rt; chain.as_slice(), CHAIN);
-    let primary = put(&rt, alloc, "generate 42 primary 5", b"", &[], Status::Done)?;
-    assert_eq!(rt; primary.as_slice(), PRIMARY);
-    let viewed = put(&rt, alloc, "generate 42 vr 7", b"", &[], Status::Done)?;
-    assert_eq!(rt; viewed.as_slice(), VR);
+    for (text, summary) in [
+        ("generate 42 chain 3", CHAIN),
+        ("generate 42 primary 5", PRIMARY),
+        ("generate 42 vr 7", VR),
+    ] {
+        let sink = put(&rt, alloc, text, b"", &[], Status::Done)?;
+        assert_eq!(rt; sink.as_slice(), summary);
+    }
     let none = put(
         &rt,
         alloc,

@@ -1,5 +1,6 @@
 use hm_base::steps::{Counted, Steps};
 use hm_dirtyset::dirty_set::{DirtySet, Full, OpenFault};
+use std::alloc::Global;
 use std::test::Fail;
 
 #[test]
@@ -11,25 +12,49 @@ fn opens_within_its_ranges(rt: HostRuntime) {
     assert!(rt; DirtySet::open(alloc, 4, 12).is_ok());
 }
 
-#[test]
-fn keeps_the_numbers_above_the_point(rt: HostRuntime) -> Result<(), Fail> {
-    let mut set = DirtySet::open(rt.alloc(), 2, 0).map_err(|_| "memory")?;
-    assert!(rt; set.put(5, 1).is_ok() && set.put(6, 2).is_ok() && set.put(5, 3).is_ok());
+/// What a set of two slots says: of three numbers put, of cleaning up to 1 and to 2, of two objects looked up and how many looks
+/// that took, of two further numbers put, and its greatest number and its point then.
+#[derive(Clone, Copy)]
+struct Said {
+    put: [Result<(), Full>; 3],
+    cleaned: [(bool, u32); 2],
+    got: [Option<u64>; 2],
+    looks: u64,
+    full: [Result<(), Full>; 2],
+    ends: (u64, u64),
+}
+
+/// One life of a set of two slots.
+fn history(alloc: Global) -> Result<Said, Fail> {
+    let mut set = DirtySet::open(alloc, 2, 0).map_err(|_| "memory")?;
+    let put = [set.put(5, 1), set.put(6, 2), set.put(5, 3)];
     let mut steps: Steps<Counted> = Steps::new();
     set.clean_to(1, &mut steps);
-    assert!(rt; steps.shown() <= 1);
-    assert_eq!(rt; set.live(), 2);
+    let first = (steps.shown() <= 1, set.live());
     let mut steps: Steps<Counted> = Steps::new();
     set.clean_to(2, &mut steps);
-    assert!(rt; steps.shown() <= 2);
-    assert_eq!(rt; set.live(), 1);
+    let second = (steps.shown() <= 2, set.live());
     let mut steps: Steps<Counted> = Steps::new();
-    assert_eq!(rt; set.get(5, &mut steps), Some(3));
-    assert_eq!(rt; set.get(6, &mut steps), None);
-    assert_eq!(rt; steps.shown(), 3);
-    assert!(rt; set.put(7, 4).is_ok());
-    assert_eq!(rt; set.put(8, 5), Err(Full));
-    assert_eq!(rt; set.greatest(), 4);
-    assert_eq!(rt; set.point(), 2);
+    let got = [set.get(5, &mut steps), set.get(6, &mut steps)];
+    let full = [set.put(7, 4), set.put(8, 5)];
+    Ok(Said {
+        put,
+        cleaned: [first, second],
+        got,
+        looks: steps.shown(),
+        full,
+        ends: (set.greatest(), set.point()),
+    })
+}
+
+#[test]
+fn keeps_the_numbers_above_the_point(rt: HostRuntime) -> Result<(), Fail> {
+    let said = history(rt.alloc())?;
+    assert_eq!(rt; said.put, [Ok(()), Ok(()), Ok(())]);
+    assert_eq!(rt; said.cleaned, [(true, 2), (true, 1)]);
+    assert_eq!(rt; said.got, [Some(3), None]);
+    assert_eq!(rt; said.looks, 3);
+    assert_eq!(rt; said.full, [Ok(()), Err(Full)]);
+    assert_eq!(rt; said.ends, (4, 2));
     Ok(())
 }

@@ -7,6 +7,7 @@ use hm_feed::follower::{Follower, Took};
 use hm_feed::sender::Sender;
 use hm_packet::body::Feed;
 use hm_shim::shim::Shim;
+use std::alloc::Global;
 use std::test::Fail;
 
 /// A client's first write.
@@ -31,32 +32,37 @@ fn page(first: u32, log: &[Entry; 1]) -> Feed<'_> {
     }
 }
 
-#[test]
-fn a_staged_list_becomes_the_log(rt: HostRuntime) -> Result<(), Fail> {
-    let alloc = rt.alloc();
+/// What each of two pages comes to and how long the log is then, and whether the list is staged still.
+fn staged(alloc: Global) -> Result<([(Took, u32); 2], bool), Fail> {
     let value = Value::from_slice(b"a").ok_or("a value")?;
     let log = [write(value)];
     let mut shim = Shim::open(alloc, 16)?;
     let mut follower = Follower::open(alloc, 16)?;
     follower.begin();
-    assert!(rt; follower.staging());
-    assert_eq!(rt; follower.take(&mut shim, &page(0, &log)), Took::Staged(1));
-    assert_eq!(rt; shim.log().len(), 0);
-    assert_eq!(rt; follower.take(&mut shim, &page(1, &log)), Took::Adopted(2));
-    assert_eq!(rt; shim.log().len(), 2);
-    assert!(rt; !follower.staging());
+    if !follower.staging() {
+        return Err("a staged list")?;
+    }
+    let first = (follower.take(&mut shim, &page(0, &log)), shim.log().len());
+    let second = (follower.take(&mut shim, &page(1, &log)), shim.log().len());
+    Ok(([first, second], follower.staging()))
+}
+
+#[test]
+fn a_staged_list_becomes_the_log(rt: HostRuntime) -> Result<(), Fail> {
+    let (took, is_staging) = staged(rt.alloc())?;
+    assert_eq!(rt; took, [(Took::Staged(1), 0), (Took::Adopted(2), 2)]);
+    assert!(rt; !is_staging);
     Ok(())
 }
 
 #[test]
 fn notes_what_is_acknowledged(rt: HostRuntime) -> Result<(), Fail> {
     let mut sender = Sender::open(0, 0);
-    assert!(rt; sender.note(1, 3));
-    assert!(rt; !sender.note(1, 2));
-    assert_eq!(rt; sender.acked(1), 3);
+    let noted = (sender.note(1, 3), sender.note(1, 2), sender.acked(1));
     let mut members = Members::first(0).ok_or("a member")?;
     members.try_push(1)?;
-    assert_eq!(rt; sender.held_above(&members, 0, 1, 2), Some(3));
-    assert_eq!(rt; sender.held_above(&members, 0, 1, 3), None);
+    let above = |floor| sender.held_above(&members, 0, 1, floor);
+    assert_eq!(rt; noted, (true, false, 3));
+    assert_eq!(rt; (above(2), above(3)), (Some(3), None));
     Ok(())
 }

@@ -53,18 +53,20 @@ fn frames_a_packet(rt: HostRuntime) -> Result<(), Fail> {
 fn gives_a_packet_at_its_last_byte(rt: HostRuntime) -> Result<(), Fail> {
     let mut unframer = Unframer::new(rt.alloc());
     for (i, byte) in READ_FRAME.iter().enumerate() {
-        assert_eq!(rt; next_of(&mut unframer), Ok(false));
-        assert_eq!(rt; unframer.held(), i);
+        assert_eq!(rt; (next_of(&mut unframer), unframer.held()), (Ok(false), i));
         unframer.feed(&[*byte])?;
     }
     let mut room = PageRoom::new();
     let mut packet = Packet::blank();
-    assert_eq!(rt; unframer.next(&mut room, &mut packet), Ok(true));
+    let given = unframer.next(&mut room, &mut packet);
     let mut buf = Buf::new();
     frame(&packet, &mut buf);
     assert_eq!(rt; buf.as_slice(), READ_FRAME.as_slice());
-    assert_eq!(rt; unframer.held(), 0);
-    assert_eq!(rt; next_of(&mut unframer), Ok(false));
+    let held = unframer.held();
+    assert_eq!(rt;
+        (given, held, next_of(&mut unframer)),
+        (Ok(true), 0, Ok(false))
+    );
     Ok(())
 }
 

@@ -26,7 +26,11 @@ mod packet;
 #[cfg(test)]
 mod primary;
 #[cfg(test)]
+mod primary_rows;
+#[cfg(test)]
 mod reconfig;
+#[cfg(test)]
+mod refused_rows;
 #[cfg(test)]
 mod replay;
 #[cfg(test)]

@@ -1,3 +1,5 @@
+use crate::primary_rows::PRIMARY_ROWS;
+use crate::refused_rows::REFUSED_ROWS;
 use crate::rows::{ROWS, Row, WRITE_THEN_READ};
 use crate::vr_rows::VR_ROWS;
 use hm_outside::adapters::{ReaderSource, WriterSink};
@@ -28,15 +30,24 @@ fn words(alloc: Global, texts: &[&str]) -> Result<Vec<String>, AllocError> {
     Ok(words)
 }
 
-/// A source in memory of which the calls with these numbers fail.
-fn source(alloc: Global, bytes: &[u8], fails: &[u64]) -> Result<MemorySource, AllocError> {
-    Ok(MemorySource::new(bytes.to_vec(alloc)?, fails.to_vec(alloc)?))
+/// A sink with room for every text here, of which the calls with these numbers fail.
+fn sink(alloc: Global, fails: &[u64]) -> Result<MemorySink, Fail> {
+    Ok(MemorySink::open(alloc, 1_000_000, fails.to_vec(alloc)?)?)
 }
 
-/// A sink of which the calls with these numbers fail.
-fn sink(alloc: Global, fails: &[u64]) -> Result<MemorySink, Fail> {
-    let sink = MemorySink::open(alloc, 4096, fails.to_vec(alloc)?);
-    Ok(sink?)
+/// How a run of these words ends, and its text, over bytes and of a source and a sink of which the calls with these numbers fail.
+fn ran(
+    alloc: Global,
+    texts: &[&str],
+    bytes: &[u8],
+    read_fails: &[u64],
+    put_fails: &[u64],
+) -> Result<(Status, MemorySink), Fail> {
+    let words = words(alloc, texts)?;
+    let mut source = MemorySource::new(bytes.to_vec(alloc)?, read_fails.to_vec(alloc)?);
+    let mut sink = sink(alloc, put_fails)?;
+    let status = run(alloc, &words, &mut source, &mut sink);
+    Ok((status, sink))
 }
 
 /// A sink that sees whether each piece begins an event's text or the ending, and holds no other.
@@ -70,19 +81,24 @@ impl Sink for Pieces {
     }
 }
 
+/// How the run of a schedule ends, and its pieces.
+fn replayed(alloc: Global, schedule: &[u8]) -> Result<(Status, Pieces), Fail> {
+    let words = words(alloc, &["replay"])?;
+    let mut source = MemorySource::new(schedule.to_vec(alloc)?, Vec::new(alloc));
+    let mut pieces = Pieces {
+        sink: sink(alloc, &[])?,
+        are_whole: true,
+    };
+    let status = run(alloc, &words, &mut source, &mut pieces);
+    Ok((status, pieces))
+}
+
 /// Asserts that schedules give these texts, piece by piece.
 fn assert_rows(rt: &impl Abort, alloc: Global, rows: &[Row]) -> Result<(), Fail> {
-    let words = words(alloc, &["replay"])?;
     for row in rows {
-        let mut source = source(alloc, row.schedule, &[])?;
-        let mut pieces = Pieces {
-            sink: sink(alloc, &[])?,
-            are_whole: true,
-        };
-        let status = run(alloc, &words, &mut source, &mut pieces);
-        assert_eq!(rt; status, row.status);
+        let (status, pieces) = replayed(alloc, row.schedule)?;
+        assert_eq!(rt; (status, pieces.are_whole), (row.status, true));
         assert_eq!(rt; pieces.sink.as_slice(), row.text);
-        assert!(rt; pieces.are_whole);
     }
     Ok(())
 }
@@ -90,32 +106,25 @@ fn assert_rows(rt: &impl Abort, alloc: Global, rows: &[Row]) -> Result<(), Fail>
 #[test]
 fn replays_each_row_piece_by_piece(rt: HostRuntime) -> Result<(), Fail> {
     assert_rows(&rt, rt.alloc(), &ROWS)?;
-    assert_rows(&rt, rt.alloc(), &VR_ROWS)
+    assert_rows(&rt, rt.alloc(), &PRIMARY_ROWS)?;
+    assert_rows(&rt, rt.alloc(), &VR_ROWS)?;
+    assert_rows(&rt, rt.alloc(), &REFUSED_ROWS)
+}
+
+/// Asserts a run's code and its text.
+fn assert_run(rt: &impl Abort, ran: (Status, MemorySink), code: u8, text: &[u8]) {
+    let (status, sink) = ran;
+    assert_eq!(rt; status.code(), code);
+    assert_eq!(rt; sink.as_slice(), text);
 }
 
 #[test]
 fn stops_where_a_device_fails(rt: HostRuntime) -> Result<(), Fail> {
-    let words = words(rt.alloc(), &["replay"])?;
     let schedule = WRITE_THEN_READ.schedule;
-    let mut text = sink(rt.alloc(), &[2])?;
-    let status = run(
-        rt.alloc(),
-        &words,
-        &mut source(rt.alloc(), schedule, &[])?,
-        &mut text,
-    );
-    assert_eq!(rt; status.code(), 5);
-    assert_eq!(rt; text.as_slice(), FIRST_EVENT);
-
-    let mut text = sink(rt.alloc(), &[])?;
-    let status = run(
-        rt.alloc(),
-        &words,
-        &mut source(rt.alloc(), schedule, &[1])?,
-        &mut text,
-    );
-    assert_eq!(rt; status.code(), 4);
-    assert_eq!(rt; text.as_slice(), b"".as_slice());
+    let cut = ran(rt.alloc(), &["replay"], schedule, &[], &[2])?;
+    assert_run(&rt, cut, 5, FIRST_EVENT);
+    let unread = ran(rt.alloc(), &["replay"], schedule, &[1], &[])?;
+    assert_run(&rt, unread, 4, b"");
     Ok(())
 }
 
@@ -133,10 +142,8 @@ fn assert_end(
         schedule.extend_from_slice(repeated)?;
     }
     schedule.extend_from_slice(last)?;
-    let mut source = MemorySource::new(schedule, Vec::new(alloc));
-    let mut sink = MemorySink::open(alloc, 1_000_000, Vec::new(alloc))?;
-    let words = words(alloc, &["replay"])?;
-    assert_eq!(rt; run(alloc, &words, &mut source, &mut sink), status);
+    let (ended, sink) = ran(alloc, &["replay"], schedule.as_slice(), &[], &[])?;
+    assert_eq!(rt; ended, status);
     assert!(rt; sink.as_slice().ends_with(end));
     Ok(())
 }
@@ -181,11 +188,9 @@ fn stops_behind_the_last_event(rt: HostRuntime) -> Result<(), Fail> {
 
 #[test]
 fn takes_one_word(rt: HostRuntime) -> Result<(), Fail> {
-    let words = words(rt.alloc(), &["replay", "now"])?;
-    let mut source = source(rt.alloc(), WRITE_THEN_READ.schedule, &[])?;
-    let mut text = sink(rt.alloc(), &[])?;
-    assert_eq!(rt; run(rt.alloc(), &words, &mut source, &mut text).code(), 2);
-    assert_eq!(rt; text.as_slice(), b"".as_slice());
+    let schedule = WRITE_THEN_READ.schedule;
+    let ended = ran(rt.alloc(), &["replay", "now"], schedule, &[], &[])?;
+    assert_run(&rt, ended, 2, b"");
     Ok(())
 }
 
@@ -216,23 +221,29 @@ impl Read for Trickle<'_> {
     }
 }
 
+/// How the run of a schedule ends that comes byte by byte, and its text.
+fn trickled(alloc: Global, bytes: &[u8]) -> Result<(Status, Vec<u8>), Fail> {
+    let words = words(alloc, &["replay"])?;
+    let mut text = WriterSink::new(Vec::new(alloc));
+    let mut source = ReaderSource::new(Trickle { bytes });
+    let status = run(alloc, &words, &mut source, &mut text);
+    Ok((status, text.into_inner()))
+}
+
+/// How the run of a schedule ends over devices that never fail.
+fn surely(alloc: Global, bytes: &[u8]) -> Result<Status, Fail> {
+    let words = words(alloc, &["replay"])?;
+    let mut source = SureSource::new(bytes.to_vec(alloc)?);
+    Ok(run(alloc, &words, &mut source, &mut SureSink::new()))
+}
+
 #[test]
 fn runs_over_each_device(rt: HostRuntime) -> Result<(), Fail> {
-    let words = words(rt.alloc(), &["replay"])?;
     let bytes = WRITE_THEN_READ.schedule;
-    let mut text = WriterSink::new(Vec::new(rt.alloc()));
-    let mut source = ReaderSource::new(Trickle { bytes });
-    assert_eq!(rt;
-        run(rt.alloc(), &words, &mut source, &mut text),
-        Status::Done
-    );
-    assert_eq!(rt; text.into_inner().as_slice(), WRITE_THEN_READ.text);
-
-    let mut source = SureSource::new(bytes.to_vec(rt.alloc())?);
-    assert_eq!(rt;
-        run(rt.alloc(), &words, &mut source, &mut SureSink::new()),
-        Status::Done
-    );
+    assert_eq!(rt; surely(rt.alloc(), bytes)?, Status::Done);
+    let (status, text) = trickled(rt.alloc(), bytes)?;
+    assert_eq!(rt; status, Status::Done);
+    assert_eq!(rt; text.as_slice(), WRITE_THEN_READ.text);
     Ok(())
 }
 
@@ -244,18 +255,9 @@ const READ_FRAME: [u8; 26] = [
 
 #[test]
 fn shows_frames(rt: HostRuntime) -> Result<(), Fail> {
-    let words = words(rt.alloc(), &["show"])?;
-    let mut whole = source(rt.alloc(), &READ_FRAME, &[])?;
-    let mut text = sink(rt.alloc(), &[])?;
-    assert_eq!(rt; run(rt.alloc(), &words, &mut whole, &mut text).code(), 0);
-    assert_eq!(rt;
-        text.as_slice(),
-        b"packet 1 c8 s1 read 1 5\nend 1\n".as_slice()
-    );
-
-    let mut part = source(rt.alloc(), &READ_FRAME[..10], &[])?;
-    let mut text = sink(rt.alloc(), &[])?;
-    assert_eq!(rt; run(rt.alloc(), &words, &mut part, &mut text).code(), 3);
-    assert_eq!(rt; text.as_slice(), b"bad 1 10 Short\n".as_slice());
+    let whole = ran(rt.alloc(), &["show"], &READ_FRAME, &[], &[])?;
+    assert_run(&rt, whole, 0, b"packet 1 c8 s1 read 1 5\nend 1\n");
+    let part = ran(rt.alloc(), &["show"], &READ_FRAME[..10], &[], &[])?;
+    assert_run(&rt, part, 3, b"bad 1 10 Short\n");
     Ok(())
 }

@@ -1,7 +1,6 @@
 //! Schedules and the whole texts of their runs.
 
 use hm_replay::status::Status;
-use hm_schedule::line::LineReason;
 
 /// A schedule, how its run ends, and the text of its run.
 #[derive(Clone, Copy)]
@@ -602,130 +601,6 @@ end
 ",
 };
 
-/// A new primary takes a write that the old one had alone.
-const PRIMARY_RESEND_TO_THE_NEW_PRIMARY: Row = Row {
-    schedule: b"group primary 3
-write 7 5 61 1
-next
-next
-deliver 4
-stop 0
-remove 0
-deliver 6
-deliver 7
-deliver 9
-deliver 8
-resend 7 1
-deliver 11
-deliver 12
-deliver 13
-deliver 14
-",
-    status: Status::Done,
-    text: b"event 1 ok
-invoke 7.1
-packet 1 c7 s1 write 1 5 61
-event 2 ok
-packet 2 s1 r0 put 1.1 7 1 5 61
-event 3 ok
-packet 3 r0 r1 feed 0 0 0 0 1 1.1 7 1 5 61
-packet 4 r0 r2 feed 0 0 0 0 1 1.1 7 1 5 61
-event 4 ok
-packet 5 r2 r0 feedack 0 1
-event 5 ok
-event 6 ok
-packet 6 cfg r1 config 1 2 1 2
-packet 7 cfg r2 config 1 2 1 2
-packet 8 cfg s1 route 1 1 1 2 1 2
-event 7 ok
-packet 9 r1 r2 feed 1 0 0 0 0
-event 8 ok
-event 9 ok
-packet 10 r2 r1 feedack 1 0
-event 10 ok
-event 11 ok
-packet 11 c7 s1 write 1 5 61
-event 12 ok
-packet 12 s1 r1 put 1.2 7 1 5 61
-event 13 ok
-packet 13 r1 r2 feed 1 0 0 0 1 1.2 7 1 5 61
-event 14 ok
-packet 14 r2 r1 feedack 1 1
-event 15 ok
-commit 7.1 1.2
-packet 15 r1 s1 done 1.2 7 1
-order 1
-place 7.1
-end
-",
-};
-
-/// A new primary answers no read before it is settled.
-const PRIMARY_UNSETTLED: Row = Row {
-    schedule: b"group primary 3
-write 7 5 61 1
-next
-next
-next
-next
-next
-next
-stop 0
-remove 0
-deliver 8
-deliver 10
-read 8 5 1
-deliver 12
-deliver 13
-deliver 9
-deliver 11
-deliver 14
-deliver 13
-",
-    status: Status::Done,
-    text: b"event 1 ok
-invoke 7.1
-packet 1 c7 s1 write 1 5 61
-event 2 ok
-packet 2 s1 r0 put 1.1 7 1 5 61
-event 3 ok
-packet 3 r0 r1 feed 0 0 0 0 1 1.1 7 1 5 61
-packet 4 r0 r2 feed 0 0 0 0 1 1.1 7 1 5 61
-event 4 ok
-packet 5 r1 r0 feedack 0 1
-event 5 ok
-packet 6 r2 r0 feedack 0 1
-event 6 ok
-event 7 ok
-commit 7.1 1.1
-packet 7 r0 s1 done 1.1 7 1
-event 8 ok
-event 9 ok
-packet 8 cfg r1 config 1 2 1 2
-packet 9 cfg r2 config 1 2 1 2
-packet 10 cfg s1 route 1 1 1 2 1 2
-event 10 ok
-packet 11 r1 r2 feed 1 1 0 0 1 1.1 7 1 5 61
-event 11 ok
-event 12 ok
-invoke 8.1
-packet 12 c8 s1 read 1 5
-event 13 ok
-packet 13 s1 r1 normalread 8 1 5
-event 14 ignored Unsettled
-event 15 ok
-event 16 ok
-packet 14 r2 r1 feedack 1 1
-event 17 ok
-packet 15 r1 s1 done 1.1 7 1
-event 18 ok
-packet 16 r1 c8 reply 1 1.1 61
-order 1
-place 7.1
-end
-",
-};
-
 /// A group alone.
 const NO_EVENT: Row = Row {
     schedule: b"group chain 1\n",
@@ -733,78 +608,8 @@ const NO_EVENT: Row = Row {
     text: b"order 0\nend\n",
 };
 
-/// No line at all.
-const NO_GROUP: Row = Row {
-    schedule: b"",
-    status: Status::BadLine {
-        line: 1,
-        reason: LineReason::Header,
-    },
-    text: b"bad 1 Header\n",
-};
-
-/// A setup line behind one that it stands before.
-const TABLE_BEHIND_A_LOG: Row = Row {
-    schedule: b"group chain 2\nlife 9\nlog 3\ntable 1 1\nread 8 5 1\n",
-    status: Status::BadLine {
-        line: 4,
-        reason: LineReason::Header,
-    },
-    text: b"bad 4 Header\n",
-};
-
-/// A line outside the grammar behind an event.
-const UNKNOWN_WORD: Row = Row {
-    schedule: b"group chain 1\nread 8 5 1\nfoo\nnext\n",
-    status: Status::BadLine {
-        line: 3,
-        reason: LineReason::Word,
-    },
-    text: b"event 1 ok\ninvoke 8.1\npacket 1 c8 s1 read 1 5\nbad 3 Word\n",
-};
-
-/// A second group, which is no whole line either.
-const SECOND_GROUP: Row = Row {
-    schedule: b"group chain 1\ngroup\n",
-    status: Status::BadLine {
-        line: 2,
-        reason: LineReason::Header,
-    },
-    text: b"bad 2 Header\n",
-};
-
-/// An event before the group.
-const EVENT_FIRST: Row = Row {
-    schedule: b"next\ngroup chain 1\n",
-    status: Status::BadLine {
-        line: 1,
-        reason: LineReason::Header,
-    },
-    text: b"bad 1 Header\n",
-};
-
-/// A line without its end, and a byte in it that is no character.
-const NOT_ENDED: Row = Row {
-    schedule: b"group chain 1\nnext\xff",
-    status: Status::BadLine {
-        line: 2,
-        reason: LineReason::End,
-    },
-    text: b"bad 2 End\n",
-};
-
-/// A number that is too great for its field, behind an event.
-const TOO_GREAT: Row = Row {
-    schedule: b"group chain 1\nread 8 5 1\ntick 256\n",
-    status: Status::BadLine {
-        line: 3,
-        reason: LineReason::Number,
-    },
-    text: b"event 1 ok\ninvoke 8.1\npacket 1 c8 s1 read 1 5\nbad 3 Number\n",
-};
-
 /// All of them.
-pub const ROWS: [Row; 25] = [
+pub const ROWS: [Row; 16] = [
     WRITE_THEN_READ,
     READ_BEFORE_A_COMPLETION,
     CHAIN_PUT_REPEATED,
@@ -819,15 +624,6 @@ pub const ROWS: [Row; 25] = [
     CHAIN_REMOVE_TAIL,
     CHAIN_PAGE_OF_AN_OLD_EPOCH,
     CHAIN_LOST_AND_REPEATED,
-    PRIMARY_RESEND_TO_THE_NEW_PRIMARY,
-    PRIMARY_UNSETTLED,
     BARS,
     NO_EVENT,
-    NO_GROUP,
-    TABLE_BEHIND_A_LOG,
-    UNKNOWN_WORD,
-    SECOND_GROUP,
-    EVENT_FIRST,
-    NOT_ENDED,
-    TOO_GREAT,
 ];

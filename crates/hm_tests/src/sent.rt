@@ -17,7 +17,7 @@ pub(crate) fn write_sent(outs: &Outs, out: &mut Text) -> Result<(), Fail> {
     Ok(())
 }
 
-/// Appends the text of the last packet that a step sent.
+/// Appends the text of the last packet that a step sent, with a line's end behind it.
 pub(crate) fn write_last(outs: &Outs, out: &mut Text) -> Result<(), Fail> {
     let mut start = 0;
     let mut last = 0;
@@ -25,7 +25,9 @@ pub(crate) fn write_last(outs: &Outs, out: &mut Text) -> Result<(), Fail> {
         start = last;
         last = *end as usize;
     }
-    write_spelled(outs, start, last, out)
+    write_spelled(outs, start, last, out)?;
+    out.push(b'\n')?;
+    Ok(())
 }
 
 /// Appends the text of the packet whose spelling lies between two places.

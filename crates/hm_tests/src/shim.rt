@@ -80,46 +80,75 @@ fn lagging(alloc: Global, first: Value, second: Value) -> Result<Shim, Fail>
     Ok(shim)
 }
 
+/// What is answered of a read stamped 1 and of one stamped 2 by a replica that answers behind the stamp, and by one ahead of it.
+fn reads(alloc: Global, first: Value, second: Value) -> Result<[(Local, Local); 2], Fail> {
+    let shim = lagging(alloc, first, second)?;
+    let behind = (shim.read_behind(&read(1)), shim.read_behind(&read(2)));
+    let ahead = (shim.read_ahead(&read(1)), shim.read_ahead(&read(2)));
+    Ok([behind, ahead])
+}
+
 #[test]
 fn reads_what_the_stamp_allows(rt: HostRuntime) -> Result<(), Fail> {
     let first = Value::from_slice(b"a").ok_or("a value")?;
     let second = Value::from_slice(b"b").ok_or("a value")?;
-    let shim = lagging(rt.alloc(), first, second)?;
+    let [behind, ahead] = reads(rt.alloc(), first, second)?;
     let older = Local::Answer(reply_to(1, Some((stamp(1), first))));
     let newer = Local::Answer(reply_to(1, Some((stamp(2), second))));
-    assert_eq!(rt; shim.read_behind(&read(2)), Local::Pass);
-    assert_eq!(rt; shim.read_behind(&read(1)), older);
-    assert_eq!(rt; shim.read_ahead(&read(1)), Local::Pass);
-    assert_eq!(rt; shim.read_ahead(&read(2)), newer);
+    assert_eq!(rt; behind, (older, Local::Pass));
+    assert_eq!(rt; ahead, (Local::Pass, newer));
     Ok(())
+}
+
+/// How writes of switches, numbers and requests are admitted, whether a further one finds no room, and whether refusing switch 1
+/// changes what is accepted, and to what.
+fn admitted(alloc: Global, value: Value) -> Result<([Admit; 5], bool, (bool, u32)), Fail> {
+    let mut shim = lagging(alloc, value, value)?;
+    let admit = |switch, seq, request| shim.admit(&put(switch, seq, request, value));
+    let admits = [
+        admit(2, 3, 4),
+        admit(1, 2, 4),
+        admit(1, 3, 2),
+        admit(1, 3, 3),
+        admit(1, 3, 4),
+    ];
+    let is_full = shim.append(write(3, 7, 4, value)).is_err();
+    let refused = shim.refuse(1);
+    Ok((admits, is_full, (refused, shim.accepted())))
 }
 
 #[test]
 fn admits_writes_in_order(rt: HostRuntime) -> Result<(), Fail> {
     let value = Value::from_slice(b"a").ok_or("a value")?;
-    let mut shim = lagging(rt.alloc(), value, value)?;
+    let (admits, is_full, refused) = admitted(rt.alloc(), value)?;
     assert_eq!(rt;
-        shim.admit(&put(2, 3, 4, value)),
-        Admit::Drop(Why::OldSwitch)
+        admits,
+        [
+            Admit::Drop(Why::OldSwitch),
+            Admit::Drop(Why::Order),
+            Admit::Drop(Why::Repeat),
+            Admit::Again { index: 0 },
+            Admit::Take,
+        ]
     );
-    assert_eq!(rt; shim.admit(&put(1, 2, 4, value)), Admit::Drop(Why::Order));
-    assert_eq!(rt; shim.admit(&put(1, 3, 2, value)), Admit::Drop(Why::Repeat));
-    assert_eq!(rt; shim.admit(&put(1, 3, 3, value)), Admit::Again { index: 0 });
-    assert_eq!(rt; shim.admit(&put(1, 3, 4, value)), Admit::Take);
-    assert!(rt; shim.append(write(3, 7, 4, value)).is_err());
-    assert!(rt; shim.refuse(1));
-    assert_eq!(rt; shim.accepted(), 2);
+    assert!(rt; is_full);
+    assert_eq!(rt; refused, (true, 2));
     Ok(())
+}
+
+/// How two requests are judged where another log was adopted, and the last stamp then.
+fn adopted(alloc: Global, value: Value) -> Result<([Verdict; 2], Stamp), Fail> {
+    let mut shim = holding(alloc, write(1, 7, 3, value))?;
+    shim.adopt(&[write(2, 8, 1, value)]);
+    Ok(([shim.judge(7, 3), shim.judge(8, 1)], shim.log().last()))
 }
 
 #[test]
 fn adopted_log_brings_its_clients(rt: HostRuntime) -> Result<(), Fail> {
     let value = Value::from_slice(b"a").ok_or("a value")?;
-    let mut shim = holding(rt.alloc(), write(1, 7, 3, value))?;
-    shim.adopt(&[write(2, 8, 1, value)]);
-    assert_eq!(rt; shim.judge(7, 3), Verdict::New);
-    assert_eq!(rt; shim.judge(8, 1), Verdict::Again { index: 0 });
-    assert_eq!(rt; shim.log().last(), stamp(2));
+    let (verdicts, last) = adopted(rt.alloc(), value)?;
+    assert_eq!(rt; verdicts, [Verdict::New, Verdict::Again { index: 0 }]);
+    assert_eq!(rt; last, stamp(2));
     Ok(())
 }
 
@@ -141,16 +170,20 @@ fn keeps_the_front_of_a_log(rt: HostRuntime) -> Result<(), Fail> {
     Ok(())
 }
 
+/// How many entries are staged, in two ways, how long the log and they are together, and how many are staged once they are cleared.
+fn staged(alloc: Global, value: Value) -> Result<(u32, usize, u32, u32), Fail> {
+    let shim = lagging(alloc, value, value)?;
+    let mut staged = Staged::open(alloc, 2)?;
+    staged.extend(&[write(3, 9, 1, value)]);
+    let (len, listed) = (staged.len(), staged.as_slice().len());
+    let both = shim.staged_len(&staged);
+    staged.clear();
+    Ok((len, listed, both, staged.len()))
+}
+
 #[test]
 fn stages_behind_what_is_applied(rt: HostRuntime) -> Result<(), Fail> {
     let value = Value::from_slice(b"a").ok_or("a value")?;
-    let shim = lagging(rt.alloc(), value, value)?;
-    let mut staged = Staged::open(rt.alloc(), 2)?;
-    staged.extend(&[write(3, 9, 1, value)]);
-    assert_eq!(rt; staged.len(), 1);
-    assert_eq!(rt; staged.as_slice().len(), 1);
-    assert_eq!(rt; shim.staged_len(&staged), 2);
-    staged.clear();
-    assert_eq!(rt; staged.len(), 0);
+    assert_eq!(rt; staged(rt.alloc(), value)?, (1, 1, 2, 0));
     Ok(())
 }

@@ -50,12 +50,15 @@ fn ends_inside_a_frame(rt: HostRuntime) -> Result<(), Fail> {
 
 #[test]
 fn keeps_what_was_shown_before_a_fault(rt: HostRuntime) -> Result<(), Fail> {
-    let (answer, sink) = shown(rt.alloc(), &READ_FRAME, &[2], &[])?;
-    assert_eq!(rt; answer, Shown::ReadFault);
-    assert_eq!(rt; sink.as_slice(), b"packet 1 c8 s1 read 1 5\n".as_slice());
-    let (answer, sink) = shown(rt.alloc(), &READ_FRAME, &[], &[1])?;
-    assert_eq!(rt; answer, Shown::WriteFault);
-    assert_eq!(rt; sink.as_slice(), b"".as_slice());
+    let rows: [(&[u64], &[u64], Shown, &[u8]); 2] = [
+        (&[2], &[], Shown::ReadFault, b"packet 1 c8 s1 read 1 5\n"),
+        (&[], &[1], Shown::WriteFault, b""),
+    ];
+    for (read_fails, put_fails, answer, text) in rows {
+        let (shown, sink) = shown(rt.alloc(), &READ_FRAME, read_fails, put_fails)?;
+        assert_eq!(rt; shown, answer);
+        assert_eq!(rt; sink.as_slice(), text);
+    }
     Ok(())
 }
 

@@ -4,6 +4,7 @@ use hm_packet::outcome::Outcome;
 use hm_schedule::event::{Event, Setup};
 use hm_world::fault::WorldFault;
 use hm_world::world::World;
+use std::alloc::Global;
 use std::test::Fail;
 
 const ONE: Setup = Setup {
@@ -21,15 +22,22 @@ const READ: Event = Event::Read {
     switch: 1,
 };
 
+/// What the first read of a client comes to: the outcome, the packet sent, and how many events and marks there are then.
+fn after_a_read(alloc: Global) -> Result<(Outcome, Vec<u8>, u32, usize), Fail> {
+    let mut world = World::open(alloc, &ONE)?;
+    let outcome = world.event(&READ)?;
+    let sent = world.sent(world.sent_count()).ok_or("a packet")?;
+    let sent = sent.to_vec(alloc)?;
+    Ok((outcome, sent, world.events(), world.history().marks().len()))
+}
+
 // Longer schedules stand in the crate of the replay, whose one call takes a whole schedule.
 #[test]
 fn a_read_is_sent(rt: HostRuntime) -> Result<(), Fail> {
-    let mut world = World::open(rt.alloc(), &ONE)?;
-    assert_eq!(rt; world.event(&READ)?, Outcome::Ok { first: 1, count: 1 });
-    let sent = world.sent(world.sent_count()).ok_or("a packet")?;
-    assert_eq!(rt; sent, &READ_FRAME[2..]);
-    assert_eq!(rt; world.events(), 1);
-    assert_eq!(rt; world.history().marks().len(), 1);
+    let (outcome, sent, events, marks) = after_a_read(rt.alloc())?;
+    assert_eq!(rt; outcome, Outcome::Ok { first: 1, count: 1 });
+    assert_eq!(rt; sent.as_slice(), &READ_FRAME[2..]);
+    assert_eq!(rt; (events, marks), (1, 1));
     Ok(())
 }
 
