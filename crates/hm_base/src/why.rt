@@ -5,21 +5,21 @@ pub enum Why {
     Kind,
     /// Another node is addressed.
     NotForMe,
-    /// The view or epoch isn't the present one.
+    /// The view or epoch isn't the present one, or for a configuration or a route not a later one.
     Epoch,
     /// Stamps of this switch are taken no more, or not yet.
     OldSwitch,
     /// A write with this number or a later one was taken before.
     Order,
-    /// It was said before.
+    /// It has nothing new: this, or something that goes as far, is known already.
     Repeat,
-    /// What stands before it is missing.
+    /// What it goes on from, or speaks of, is missing.
     Gap,
     /// The node's status or role doesn't allow it.
     Status,
-    /// The sender may not send it.
+    /// The sender may not send it, or what it says can't be.
     Foreign,
-    /// A new primary isn't sure yet that its log is held.
+    /// A new primary isn't sure yet that the log with which its epoch began is held.
     Unsettled,
     /// The node is stopped, or wasn't started.
     Gone,

@@ -1,4 +1,4 @@
-//! The nodes of a group as daemons: the very steps of the world's nodes, over links.
+//! A switch, a replica and a client as daemons: the very steps of the world's nodes, over links.
 #![tactic(auto)]
 
 pub mod address;

@@ -1,4 +1,4 @@
-//! Frames in a stream of bytes.
+//! Frames in a stream of bytes, and links, which datagrams come from and go to.
 #![tactic(auto)]
 
 pub mod datagram;

@@ -1,4 +1,4 @@
-//! A doubly linked list of distinct indices, threaded through an array.
+//! A doubly linked list of distinct indices, threaded through two arrays.
 #![tactic(auto)]
 
 pub mod links;

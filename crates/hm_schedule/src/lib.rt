@@ -1,4 +1,5 @@
-//! Schedules: the one spelling of each line, which lines may follow which, and reading them from a source.
+//! Schedules: the one spelling of each line, which lines may follow which, why a line is refused, reading and writing them, and
+//! schedules that are made of a number.
 #![tactic(auto)]
 
 pub mod event;

@@ -1,4 +1,4 @@
-//! The replicated log with an index of each object's last write.
+//! The replicated log, the last write of each object in it, and a list that is staged behind it.
 #![tactic(auto)]
 
 pub mod last_places;

@@ -1,4 +1,5 @@
-//! The tests of the crates below, in one crate, so that each of those is proved once: a module for each crate.
+//! The tests of the crates below, in one crate, so that each of those is proved once, in modules named for what they
+//! test.
 #![tactic(auto)]
 
 #[cfg(test)]
