@@ -1,4 +1,4 @@
--- How numbers, values, stamps, operations, answers, nodes and entries are spelled in lines of text.
+-- How numbers, values, stamps, operations, answers, nodes, reasons and entries are spelled in lines of text.
 use Rattle.std.specs.Prelude.{ℕ, List, [], ◌∷◌, ◌++◌, length, map, flat_map, codes, decimal}
 use Rattle.hex.specs.Hex.{encode_lower}
 use Rattle.hm_base.specs.declared.node.Node.{Node}
@@ -7,6 +7,8 @@ use Rattle.hm_base.specs.declared.stamp.Stamp.{Stamp}
 use Rattle.hm_base.specs.declared.operation.OpId.{OpId}
 use Rattle.hm_base.specs.declared.operation.Answer.{Answer}
 use Rattle.hm_base.specs.declared.operation.Answer.TheVariants.{Wrote, Nothing, Found}
+use Rattle.hm_base.specs.declared.why.Why.{Why}
+use Rattle.hm_base.specs.declared.why.Why.TheVariants as why
 use Rattle.hm_base.specs.declared.entry.Entry.{Entry}
 use Rattle.hm_base.specs.declared.entry.Act.{Act}
 use Rattle.hm_base.specs.declared.entry.Act.TheVariants.{Put, Look}
@@ -50,6 +52,20 @@ node_text (Client c) = codes "c" ++ decimal c
 node_text (Switch s) = codes "s" ++ decimal s
 node_text (Replica r) = codes "r" ++ decimal r
 node_text Config = codes "cfg"
+
+-- why a node takes no notice of a packet
+abbrev pub why_text : Why → List ℕ
+why_text why.Kind = codes "Kind"
+why_text why.NotForMe = codes "NotForMe"
+why_text why.Epoch = codes "Epoch"
+why_text why.OldSwitch = codes "OldSwitch"
+why_text why.Order = codes "Order"
+why_text why.Repeat = codes "Repeat"
+why_text why.Gap = codes "Gap"
+why_text why.Status = codes "Status"
+why_text why.Foreign = codes "Foreign"
+why_text why.Unsettled = codes "Unsettled"
+why_text why.Gone = codes "Gone"
 
 -- a value or `look`
 abbrev pub act_text : Act → List ℕ

@@ -4,10 +4,13 @@ ghost use Rattle.hm_base.specs.Rising.{IsMembers, CanFollow};
 use arrayvec::ArrayVec;
 use std::marker::Model;
 
+/// How many replicas a group has at most: their numbers are 0 to 6.
+pub const MAX_REPLICAS: usize = 7;
+
 /// The members of a group: one to seven replica numbers of at most 6, in strictly rising order. Contracts see a list.
 #[derive(Drop)]
 pub struct Members {
-    list: ArrayVec<u8, 7>,
+    list: ArrayVec<u8, MAX_REPLICAS>,
 }
 
 /// The replica is above 6, or not above the last one.

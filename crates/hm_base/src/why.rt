@@ -1,3 +1,6 @@
+ghost use Rattle.std.specs.Prelude.{◌≡◌};
+ghost use Rattle.hm_base.specs.Spellings.{why_text};
+
 /// Why a node takes no notice of a packet.
 #[derive(Clone, Copy, Debug, PartialEq, Eq)]
 pub enum Why {
@@ -23,4 +26,25 @@ pub enum Why {
     Unsettled,
     /// The node is stopped, or wasn't started.
     Gone,
+}
+
+impl Why {
+    /// The reason's name, as texts have it.
+    pub fn name(self) -> &'static str
+        ensures { result.now ≡ why_text self }
+    {
+        match self {
+            Why::Kind => "Kind",
+            Why::NotForMe => "NotForMe",
+            Why::Epoch => "Epoch",
+            Why::OldSwitch => "OldSwitch",
+            Why::Order => "Order",
+            Why::Repeat => "Repeat",
+            Why::Gap => "Gap",
+            Why::Status => "Status",
+            Why::Foreign => "Foreign",
+            Why::Unsettled => "Unsettled",
+            Why::Gone => "Gone",
+        }
+    }
 }

@@ -11,7 +11,7 @@ use Rattle.hm_reconfig.specs.declared.fault.RemoveFault.{RemoveFault}
 use Rattle.hm_reconfig.specs.declared.fault.RemoveFault.TheVariants as remove
 use Rattle.hm_reconfig.specs.declared.fault.StartFault.{StartFault}
 use Rattle.hm_reconfig.specs.declared.fault.StartFault.TheVariants as start
-use Rattle.hm_rules.specs.RunText.{why_text}
+use Rattle.hm_base.specs.Spellings.{why_text}
 use Rattle.hm_rules.specs.Service.{Service, from_service, service_route, service_step, removes, retires, starts}
 use Rattle.hm_schedule.specs.LineTexts.{ended}
 use Rattle.hm_worker.specs.Heard.{Heard}

@@ -1,5 +1,4 @@
 ghost use Rattle.std.specs.Prelude.{◌≡◌, ◌++◌, OnOk, decimal};
-ghost use Rattle.hm_rules.specs.RunText.{why_text};
 ghost use Rattle.hm_desk.specs.Deeds.{noted, outcome_line, outcome_text};
 
 use hm_base::buffer::Text;
@@ -44,25 +43,6 @@ pub(crate) fn noted(did: Did) -> Outcome
     }
 }
 
-/// The name of a reason for ignoring a packet.
-fn why_name(why: Why) -> &'static str
-    ensures { result.now ≡ why_text why }
-{
-    match why {
-        Why::Kind => "Kind",
-        Why::NotForMe => "NotForMe",
-        Why::Epoch => "Epoch",
-        Why::OldSwitch => "OldSwitch",
-        Why::Order => "Order",
-        Why::Repeat => "Repeat",
-        Why::Gap => "Gap",
-        Why::Status => "Status",
-        Why::Foreign => "Foreign",
-        Why::Unsettled => "Unsettled",
-        Why::Gone => "Gone",
-    }
-}
-
 /// Appends a word and a number.
 fn write_numbered(word: &str, number: u64, out: &mut Text) -> Result<(), NoMemory>
     ensures { OnOk result (out.new.items ≡ out.old.items ++ (word.now ++ decimal number)) }
@@ -97,7 +77,7 @@ fn write_outcome(outcome: Outcome, out: &mut Text) -> Result<(), NoMemory>
         Outcome::Noted => write_bytes(b"take ok", out),
         Outcome::Ignored(why) => {
             write_bytes(b"take ignored ", out)?;
-            write_bytes(why_name(why).as_bytes(), out)
+            write_bytes(why.name().as_bytes(), out)
         }
         Outcome::Quiet => write_bytes(b"take quiet", out),
         Outcome::Malformed => write_bytes(b"take malformed", out),

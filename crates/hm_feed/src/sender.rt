@@ -3,13 +3,10 @@ ghost use Rattle.hm_base.specs.Taking as taking;
 ghost use Rattle.hm_feed.specs.Sending as sending;
 
 use crate::quorum::held_above;
-use hm_base::members::Members;
+use hm_base::members::{MAX_REPLICAS, Members};
 use hm_packet::body::Feed;
 use hm_store::ledger::Ledger;
 use std::marker::Model;
-
-/// How many replicas there can be: their numbers are 0 to 6.
-pub const MAX_REPLICAS: usize = 7;
 
 /// What a replica that sends its log keeps of those that follow: the view, how long the log was with which the view began,
 /// and what each replica acknowledged in this view. Contracts see the record of its fields.

@@ -1,10 +1,8 @@
 ghost use Rattle.std.specs.Prelude.{◌≡◌, ◌≤◌, [], false};
 ghost use Rattle.hm_rules.specs.Numbers.{stands_in, with_number};
 
+use hm_base::members::MAX_REPLICAS;
 use std::marker::Model;
-
-/// How many replicas a group has at most.
-const MAX_REPLICAS: usize = 7;
 
 /// Who refused a switch, marked by number. Contracts see the rising list of their numbers.
 #[derive(Drop)]

@@ -11,7 +11,7 @@ use Rattle.std.proofs.Math.Seq.{drop-append_seam, take-append_seam}
 use Rattle.hm_base.specs.declared.why.Why.{Why}
 use Rattle.hm_base.specs.declared.why.Why.TheVariants as why
 use Rattle.hm_base.specs.declared.operation.OpId.{OpId}
-use Rattle.hm_base.specs.Spellings.{spaced, joined, op_text}
+use Rattle.hm_base.specs.Spellings.{spaced, joined, op_text, why_text}
 use Rattle.hm_packet.specs.declared.outcome.Outcome.{Outcome}
 use Rattle.hm_packet.specs.declared.outcome.Outcome.TheVariants as outcome
 use Rattle.hm_packet.specs.declared.outcome.Bar.{Bar}
@@ -23,7 +23,7 @@ use Rattle.hm_order.specs.declared.mark.Mark.TheVariants as mark
 use Rattle.hm_rules.specs.Events.{Setup, Event}
 use Rattle.hm_rules.specs.World.{World, Happened, opens}
 use Rattle.hm_rules.specs.Runs.{Slotted, slotted, full_from, full_events, is_full_outcome}
-use Rattle.hm_rules.specs.RunText.{line_of, why_text, bar_text, outcome_word, outcome_reason, mark_word, mark_fields, mark_line, packet_lines, outcome_line, event_text, events_text, place_line, end_line, order_text, bad_text, too_long_text, ended_lines, number_of, refusal_in, refused_events}
+use Rattle.hm_rules.specs.RunText.{line_of, bar_text, outcome_word, outcome_reason, mark_word, mark_fields, mark_line, packet_lines, outcome_line, event_text, events_text, place_line, end_line, order_text, bad_text, too_long_text, ended_lines, number_of, refusal_in, refused_events}
 use Rattle.hm_refusal_laws.specs.Slotting.{slot_happens, slot_step, slot_text}
 use Rattle.hm_refusal_laws.proofs.Ends.{has_no_end, IsEndless, AreEndless, endless_decimal, endless_dotted, endless_answer, endless_joined, endless_packet}
 use Rattle.hm_refusal_laws.proofs.FullRuns.{text_refuses}

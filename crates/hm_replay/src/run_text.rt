@@ -1,5 +1,5 @@
 ghost use Rattle.std.specs.Prelude.{◌≡◌, [], ◌∷◌, ◌++◌, OnOk, flat_map, codes};
-ghost use Rattle.hm_rules.specs.RunText.{why_text, bar_text, outcome_line, mark_line, packet_lines, order_text, place_line, bad_text, too_long_text};
+ghost use Rattle.hm_rules.specs.RunText.{bar_text, outcome_line, mark_line, packet_lines, order_text, place_line, bad_text, too_long_text};
 ghost use Rattle.hm_packet.specs.Messages.{Message};
 ghost use Rattle.hm_replay.specs.Replays.{refusal_text};
 ghost use Rattle.hm_schedule.specs.Reasons.{reason_text};
@@ -9,32 +9,12 @@ use hm_base::buffer::Text;
 use hm_base::memory::NoMemory;
 use hm_base::operation::OpId;
 use hm_base::text::{write_answer, write_bytes, write_number, write_op, write_stamp};
-use hm_base::why::Why;
 use hm_order::mark::Mark;
 use hm_packet::outcome::{Bar, Outcome};
 use hm_schedule::line::LineReason;
 use hm_schedule::refusal::Refusal;
 use hm_wire::laws::{spelling_has_no_fault, spelling_tells_the_packet};
 use hm_wire_text::text::write_spelled;
-
-/// The name of a reason for ignoring a packet.
-fn why_name(why: Why) -> &'static str
-    ensures { result.now ≡ why_text why }
-{
-    match why {
-        Why::Kind => "Kind",
-        Why::NotForMe => "NotForMe",
-        Why::Epoch => "Epoch",
-        Why::OldSwitch => "OldSwitch",
-        Why::Order => "Order",
-        Why::Repeat => "Repeat",
-        Why::Gap => "Gap",
-        Why::Status => "Status",
-        Why::Foreign => "Foreign",
-        Why::Unsettled => "Unsettled",
-        Why::Gone => "Gone",
-    }
-}
 
 /// The name of a bar.
 fn bar_name(bar: Bar) -> &'static str
@@ -84,7 +64,7 @@ pub fn write_outcome(number: u32, outcome: Outcome, out: &mut Text) -> Result<()
     write_number(u64::from(number), out)?;
     match outcome {
         Outcome::Ok { .. } => write_bytes(b" ok\n", out),
-        Outcome::Ignored(why) => write_reason(b" ignored ", why_name(why), out),
+        Outcome::Ignored(why) => write_reason(b" ignored ", why.name(), out),
         Outcome::Full => write_bytes(b" full\n", out),
         Outcome::Spent => write_bytes(b" spent\n", out),
         Outcome::LogFull => write_bytes(b" logfull\n", out),

@@ -2,9 +2,7 @@
 -- this project's own.
 use Rattle.std.specs.Prelude.{ℕ, ◌+◌, ◌-◌, ◌*◌, ◌&&◌, ◌==◌, if◌then◌else◌, List, [], ◌∷◌, ◌++◌, length, take, drop, fold, flat_map, filter_map, count_by, bytes_eq, codes, decimal, Option, Some, None}
 use Rattle.hm_base.specs.declared.operation.OpId.{OpId}
-use Rattle.hm_base.specs.declared.why.Why.{Why}
-use Rattle.hm_base.specs.declared.why.Why.TheVariants as why
-use Rattle.hm_base.specs.Spellings.{joined, op_text, stamp_text, answer_text}
+use Rattle.hm_base.specs.Spellings.{joined, op_text, stamp_text, answer_text, why_text}
 use Rattle.hm_packet.specs.declared.outcome.Outcome.{Outcome}
 use Rattle.hm_packet.specs.declared.outcome.Outcome.TheVariants as outcome
 use Rattle.hm_packet.specs.declared.outcome.Bar.{Bar}
@@ -23,19 +21,6 @@ use Rattle.hm_rules.specs.Runs.{run, outcomes, full_events}
 -- words with single spaces between them, and the line's end
 abbrev pub line_of : List (List ℕ) → List ℕ
 line_of words = joined words ++ 10 ∷ []
-
-abbrev pub why_text : Why → List ℕ
-why_text why.Kind = codes "Kind"
-why_text why.NotForMe = codes "NotForMe"
-why_text why.Epoch = codes "Epoch"
-why_text why.OldSwitch = codes "OldSwitch"
-why_text why.Order = codes "Order"
-why_text why.Repeat = codes "Repeat"
-why_text why.Gap = codes "Gap"
-why_text why.Status = codes "Status"
-why_text why.Foreign = codes "Foreign"
-why_text why.Unsettled = codes "Unsettled"
-why_text why.Gone = codes "Gone"
 
 abbrev pub bar_text : Bar → List ℕ
 bar_text bar.NoPacket = codes "NoPacket"

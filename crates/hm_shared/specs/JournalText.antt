@@ -1,12 +1,12 @@
 -- The text of a journal: a line for each turn, and then how many they are. All of it is this project's own.
 use Rattle.std.specs.Prelude.{ℕ, ◌+◌, List, [], ◌∷◌, ◌++◌, length, codes, decimal}
-use Rattle.hm_base.specs.Spellings.{joined, spaced, node_text}
+use Rattle.hm_base.specs.Spellings.{joined, spaced, node_text, why_text}
 use Rattle.hm_base.specs.declared.node.Node.{Node}
 use Rattle.hm_packet.specs.declared.body.Body.TheVariants as body
 use Rattle.hm_packet.specs.declared.turn.Turn.{Turn}
 use Rattle.hm_packet.specs.declared.turn.Turn.TheVariants as turn
 use Rattle.hm_packet.specs.Texts.{body_words, packet_words}
-use Rattle.hm_rules.specs.RunText.{line_of, why_text}
+use Rattle.hm_rules.specs.RunText.{line_of}
 use Rattle.hm_shared.specs.declared.journal.Call.{Call}
 use Rattle.hm_shared.specs.declared.journal.Call.TheVariants as call
 use Rattle.hm_shared.specs.History.{SwitchTurn}

@@ -1,12 +1,11 @@
 -- How a turn's line is told from its record.
 use Rattle.std.specs.Prelude.{ℕ, ◌+◌, List, [], ◌∷◌, ◌++◌, length, codes, Option, Some, None}
-use Rattle.hm_base.specs.Spellings.{node_text}
+use Rattle.hm_base.specs.Spellings.{node_text, why_text}
 use Rattle.hm_base.specs.declared.node.Node.{Node}
 use Rattle.hm_base.specs.declared.operation.Answer.TheVariants.{Wrote}
 use Rattle.hm_packet.specs.declared.body.Body.{Body}
 use Rattle.hm_packet.specs.declared.body.Body.TheVariants as body
 use Rattle.hm_packet.specs.Texts.{body_words}
-use Rattle.hm_rules.specs.RunText.{why_text}
 use Rattle.hm_rules.specs.Senders.{number}
 use Rattle.hm_shared.specs.declared.journal.Call.{Call}
 use Rattle.hm_shared.specs.declared.journal.Call.TheVariants as call

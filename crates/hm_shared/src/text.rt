@@ -1,6 +1,5 @@
 ghost use Rattle.std.specs.Prelude.{◌≡◌, ◌^◌, ◌<◌, ◌∷◌, ◌++◌, length, OnOk, codes};
 ghost use Rattle.hm_base.specs.Spellings.{spaced};
-ghost use Rattle.hm_rules.specs.RunText.{why_text};
 ghost use Rattle.hm_rules.specs.Senders.{number};
 ghost use Rattle.hm_outside.specs.Puts.{Puts};
 ghost use Rattle.hm_shared.specs.JournalText.{call_words, turn_head, count_line};
@@ -13,32 +12,12 @@ use hm_base::memory::NoMemory;
 use hm_base::node::Node;
 use hm_base::operation::Answer;
 use hm_base::text::{write_bytes, write_node, write_number};
-use hm_base::why::Why;
 use hm_outside::device::{NotPut, Sink, put_closing};
 use hm_outside::law::calls_add_up;
 use hm_packet::body::{Body, FastRead, NormalRead, Put, Reply};
 use hm_packet::parts::{push_number, push_word};
 use hm_packet::words::{write_body, write_done, write_read, write_route, write_write};
 use std::alloc::Global;
-
-/// The name of a reason for ignoring a packet.
-fn why_name(why: Why) -> &'static str
-    ensures { result.now ≡ why_text why }
-{
-    match why {
-        Why::Kind => "Kind",
-        Why::NotForMe => "NotForMe",
-        Why::Epoch => "Epoch",
-        Why::OldSwitch => "OldSwitch",
-        Why::Order => "Order",
-        Why::Repeat => "Repeat",
-        Why::Gap => "Gap",
-        Why::Status => "Status",
-        Why::Foreign => "Foreign",
-        Why::Unsettled => "Unsettled",
-        Why::Gone => "Gone",
-    }
-}
 
 /// A node's number.
 fn number(node: Node) -> u32
@@ -128,7 +107,7 @@ fn write_answer(kept: &Record, out: &mut Text) -> Result<(), NoMemory>
         Turned1::Noted => push_word(b"noted", out),
         Turned1::Ignored(why) => {
             push_word(b"ignored", out)?;
-            push_word(why_name(why).as_bytes(), out)
+            push_word(why.name().as_bytes(), out)
         }
         Turned1::Full => push_word(b"full", out),
     }

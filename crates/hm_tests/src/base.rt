@@ -7,8 +7,9 @@ use hm_base::operation::{Answer, OpId};
 use hm_base::spelling::{read_number, read_value};
 use hm_base::stamp::{Stamp, is_at_most, is_below};
 use hm_base::steps::{Counted, Steps, Uncounted};
-use hm_base::text::{write_act, write_answer, write_node, write_op, write_stamp};
+use hm_base::text::{write_act, write_answer, write_bytes, write_node, write_op, write_stamp};
 use hm_base::value::{Value, is_same_value};
+use hm_base::why::Why;
 use std::test::Fail;
 
 #[test]
@@ -144,6 +145,7 @@ fn spell(out: &mut Text) -> Result<(), Fail> {
     ] {
         write_node(node, out)?;
     }
+    write_bytes(Why::Gap.name().as_bytes(), out)?;
     Ok(())
 }
 
@@ -153,7 +155,7 @@ fn writes_words(rt: HostRuntime) -> Result<(), Fail> {
     spell(&mut out)?;
     assert_eq!(rt;
         out.as_slice(),
-        b"1.97.10wrotenone610femptylookc7s1r0cfg".as_slice()
+        b"1.97.10wrotenone610femptylookc7s1r0cfgGap".as_slice()
     );
     Ok(())
 }

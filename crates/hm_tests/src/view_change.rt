@@ -5,6 +5,7 @@ use crate::sent::write_sent;
 use hm_base::buffer::Text;
 use hm_base::entries::Entries;
 use hm_base::entry::{Act, Entry};
+use hm_base::members::MAX_REPLICAS;
 use hm_base::stamp::Stamp;
 use hm_base::value::Value;
 use hm_base::why::Why;
@@ -15,7 +16,7 @@ use hm_shim::shim::Shim;
 use hm_store::staged::Staged;
 use hm_viewchange::view_change::ViewChange;
 use hm_viewchange::votes::best;
-use hm_viewchange::vr_core::{MAX_REPLICAS, VrCore, VrStatus};
+use hm_viewchange::vr_core::{VrCore, VrStatus};
 use std::alloc::Global;
 use std::test::Fail;
 

@@ -14,8 +14,9 @@ ghost use Rattle.hm_viewchange.specs.Standing.{replica_of, staged_list, status_o
 use crate::group::{faults, group_size, primary_of};
 use crate::packets::{own_vote, page_packet, pull_packet, push_starts, vote_packet};
 use crate::votes::{Ballot, best, count_heard, count_votes, greatest_commit};
-use crate::vr_core::{MAX_REPLICAS, VrCore, VrStatus};
+use crate::vr_core::{VrCore, VrStatus};
 use hm_base::entry::Entry;
+use hm_base::members::MAX_REPLICAS;
 use hm_base::why::Why;
 use hm_codec::acted::Acted;
 use hm_codec::outs::Outs;

@@ -2,7 +2,7 @@ ghost use Rattle.std.specs.Prelude.{◌≡◌, ◌<◌, ◌⊎◌, length, fold,
 ghost use Rattle.hm_rules.specs.Votes as rules;
 ghost use Rattle.hm_viewchange.specs.Ballots.{ballot_of, ballot_in, ballot_at, commit_in};
 
-use crate::vr_core::MAX_REPLICAS;
+use hm_base::members::MAX_REPLICAS;
 use hm_packet::body::Vote;
 
 /// A vote and the number of the replica that gave it.

@@ -1,9 +1,6 @@
 use hm_shim::shim::Shim;
 use hm_store::staged::Staged;
 
-/// How many replicas there can be: their numbers are 0 to 6.
-pub const MAX_REPLICAS: usize = 7;
-
 /// What a replica does in its view.
 #[derive(Clone, Copy, Debug, PartialEq, Eq)]
 pub enum VrStatus {

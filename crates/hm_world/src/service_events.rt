@@ -9,13 +9,11 @@ use crate::fault::{bar_of, start_bar_of};
 use crate::replica_events::is_in;
 use crate::state::State;
 use arrayvec::ArrayVec;
+use hm_base::members::MAX_REPLICAS;
 use hm_base::memory::NoMemory;
 use hm_codec::acted::Acted;
 use hm_packet::outcome::{Bar, Outcome};
 use hm_replica::group::is_member;
-
-/// How many replicas a group has at most.
-const MAX_REPLICAS: usize = 7;
 
 impl State {
     ghost use Rattle.hm_world.specs.StateFields.{world_of, slotted_of, IsKept, IsBegun, Quietly};

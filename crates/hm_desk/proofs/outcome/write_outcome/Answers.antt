@@ -10,7 +10,7 @@ two_pieces (Err e) old mid new first second text begun same more = tt
 
 pub returns-in_ok-write_bytes-in-Ignored : goal.returns-in_ok-write_bytes-in-Ignored
 returns-in_ok-write_bytes-in-Ignored c =
-    rw c.in-Ignored.is (two_pieces c.write_bytes-in-Ignored-2.result c.args.out.now.items c.write_bytes-in-Ignored.new.out.items _ _ _ _ c.in_ok-write_bytes-in-Ignored.ensures.ok (c.as_bytes.ensures.value ∙ c.why_name.ensures) c.write_bytes-in-Ignored-2.ensures.ok)
+    rw c.in-Ignored.is (two_pieces c.write_bytes-in-Ignored-2.result c.args.out.now.items c.write_bytes-in-Ignored.new.out.items _ _ _ _ c.in_ok-write_bytes-in-Ignored.ensures.ok (c.as_bytes.ensures.value ∙ c.name.ensures) c.write_bytes-in-Ignored-2.ensures.ok)
 
 pub returns-in-Malformed : goal.returns-in-Malformed
 returns-in-Malformed c = rw c.in-Malformed.is c.write_bytes-in-Malformed.ensures.ok
