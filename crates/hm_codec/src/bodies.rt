@@ -38,7 +38,6 @@ pub(crate) fn push_fields<const N: usize>(body: &Body, buf: &mut Buf<N>)
 }
 
 /// Appends the fields of a read.
-#[inline(always)]
 fn push_read<const N: usize>(fields: &Read, buf: &mut Buf<N>)
     ensures { WritesFields N (kind.Read fields.now) buf.old buf.new }
 {
@@ -47,7 +46,6 @@ fn push_read<const N: usize>(fields: &Read, buf: &mut Buf<N>)
 }
 
 /// Appends the fields of a write.
-#[inline(always)]
 fn push_write<const N: usize>(fields: &Write, buf: &mut Buf<N>)
     ensures { WritesFields N (kind.Write fields.now) buf.old buf.new }
 {
@@ -130,7 +128,6 @@ fn push_feed_ack<const N: usize>(fields: &FeedAck, buf: &mut Buf<N>)
 }
 
 /// Appends the fields of a call for a completion.
-#[inline(always)]
 fn push_ask<const N: usize>(fields: &Ask, buf: &mut Buf<N>)
     ensures { WritesFields N (kind.Ask fields.now) buf.old buf.new }
 {
@@ -149,7 +146,6 @@ fn push_known<const N: usize>(fields: &Known, buf: &mut Buf<N>)
 }
 
 /// Appends the fields of a view that is entered.
-#[inline(always)]
 fn push_start_view_change<const N: usize>(fields: &StartViewChange, buf: &mut Buf<N>)
     ensures { WritesFields N (kind.StartViewChange fields.now) buf.old buf.new }
 {
@@ -157,7 +153,6 @@ fn push_start_view_change<const N: usize>(fields: &StartViewChange, buf: &mut Bu
 }
 
 /// Appends the fields of a vote.
-#[inline(always)]
 fn push_vote<const N: usize>(fields: &Vote, buf: &mut Buf<N>)
     ensures { WritesFields N (kind.Vote fields.now) buf.old buf.new }
 {
@@ -168,7 +163,6 @@ fn push_vote<const N: usize>(fields: &Vote, buf: &mut Buf<N>)
 }
 
 /// Appends the fields of a call for a log.
-#[inline(always)]
 fn push_pull<const N: usize>(fields: &Pull, buf: &mut Buf<N>)
     ensures { WritesFields N (kind.Pull fields.now) buf.old buf.new }
 {
@@ -177,7 +171,6 @@ fn push_pull<const N: usize>(fields: &Pull, buf: &mut Buf<N>)
 }
 
 /// Appends the fields of a page of the chosen log.
-#[inline(always)]
 fn push_page<const N: usize>(fields: &Page, buf: &mut Buf<N>)
     ensures { WritesFields N (kind.Page fields.now) buf.old buf.new }
 {
@@ -186,7 +179,6 @@ fn push_page<const N: usize>(fields: &Page, buf: &mut Buf<N>)
 }
 
 /// Appends the fields of the members of an epoch.
-#[inline(always)]
 fn push_config<const N: usize>(fields: &Config, buf: &mut Buf<N>)
     ensures { WritesFields N (kind.Config fields.now) buf.old buf.new }
 {
@@ -194,7 +186,6 @@ fn push_config<const N: usize>(fields: &Config, buf: &mut Buf<N>)
 }
 
 /// Appends the fields of a route.
-#[inline(always)]
 fn push_route<const N: usize>(fields: &Route, buf: &mut Buf<N>)
     ensures { WritesFields N (kind.Route fields.now) buf.old buf.new }
 {
@@ -204,7 +195,6 @@ fn push_route<const N: usize>(fields: &Route, buf: &mut Buf<N>)
 }
 
 /// Appends the fields of a switch to be refused.
-#[inline(always)]
 fn push_refuse<const N: usize>(fields: &Refuse, buf: &mut Buf<N>)
     ensures { WritesFields N (kind.Refuse fields.now) buf.old buf.new }
 {
@@ -212,7 +202,6 @@ fn push_refuse<const N: usize>(fields: &Refuse, buf: &mut Buf<N>)
 }
 
 /// Appends the fields of a refused switch.
-#[inline(always)]
 fn push_refused<const N: usize>(fields: &Refused, buf: &mut Buf<N>)
     ensures { WritesFields N (kind.Refused fields.now) buf.old buf.new }
 {
