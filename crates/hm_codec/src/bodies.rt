@@ -55,7 +55,6 @@ fn push_write<const N: usize>(fields: &Write, buf: &mut Buf<N>)
 }
 
 /// Appends the fields of a numbered write.
-#[inline(always)]
 fn push_put<const N: usize>(fields: &Put, buf: &mut Buf<N>)
     ensures { WritesFields N (kind.Put fields.now) buf.old buf.new }
 {
@@ -67,7 +66,6 @@ fn push_put<const N: usize>(fields: &Put, buf: &mut Buf<N>)
 }
 
 /// Appends the fields of a stamped read.
-#[inline(always)]
 fn push_fast_read<const N: usize>(fields: &FastRead, buf: &mut Buf<N>)
     ensures { WritesFields N (kind.FastRead fields.now) buf.old buf.new }
 {
@@ -78,7 +76,6 @@ fn push_fast_read<const N: usize>(fields: &FastRead, buf: &mut Buf<N>)
 }
 
 /// Appends the fields of a read that goes the normal way.
-#[inline(always)]
 fn push_normal_read<const N: usize>(fields: &NormalRead, buf: &mut Buf<N>)
     ensures { WritesFields N (kind.NormalRead fields.now) buf.old buf.new }
 {
@@ -98,7 +95,6 @@ fn push_done<const N: usize>(fields: &Done, buf: &mut Buf<N>)
 }
 
 /// Appends the fields of an answer.
-#[inline(always)]
 fn push_reply<const N: usize>(fields: &Reply, buf: &mut Buf<N>)
     ensures { WritesFields N (kind.Reply fields.now) buf.old buf.new }
 {
