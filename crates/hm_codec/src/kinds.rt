@@ -1,4 +1,4 @@
-ghost use Rattle.std.specs.Prelude.{◌≡◌, OnErr};
+ghost use Rattle.std.specs.Prelude.{◌≡◌, ◌==◌, Ok, Err, length, OnErr, if◌then◌else◌};
 ghost use Rattle.hm_codec.specs.Placed.{placed};
 ghost use Rattle.hm_packet.specs.Messages.{IsLawfulNode};
 ghost use Rattle.hm_packet.specs.declared.body.Body.TheVariants as body;
@@ -17,26 +17,35 @@ use hm_wire::fault::{Fault, malformed};
 use hm_wire::head::Head;
 use hm_wire::malformed::{Malformed, Reason};
 
+/// Refuses bytes behind the fields of a packet.
+#[inline(always)]
+fn ended(rest: &[u8]) -> Result<(), Fault>
+    ensures { result ≡ (if length rest.now == 0 then Ok tt else Err (record { left = length rest.now; reason = Reason.Rest })) }
+{
+    if rest.is_empty() {
+        return Ok(());
+    }
+    Err(Fault {
+        left: rest.len(),
+        reason: Reason::Rest,
+    })
+}
+
 /// Puts the packet of a body that was read to the end of the bytes in its place, or answers the fault.
 macro_rules! packet {
     ($packet:expr, $head:expr, $read:expr, $fields:ident, $body:expr) => {
         match $read {
-            Ok(($fields, rest)) => {
-                if rest.is_empty() {
+            Ok(($fields, rest)) => match ended(rest) {
+                Ok(()) => {
                     *$packet = Packet {
                         src: $head.src,
                         dst: $head.dst,
                         body: $body,
                     };
                     Ok(())
-                } else {
-                    let fault = Fault {
-                        left: rest.len(),
-                        reason: Reason::Rest,
-                    };
-                    Err(malformed($head.len, fault))
                 }
-            }
+                Err(fault) => Err(malformed($head.len, fault)),
+            },
             Err(fault) => Err(malformed($head.len, fault)),
         }
     };

@@ -16,7 +16,8 @@ use Rattle.hm_order.specs.declared.places.Places.{Places}
 use Rattle.hm_order.specs.declared.places.OpPlaces.{OpPlaces}
 use Rattle.hm_base.specs.Stamps.{same_stamp}
 use Rattle.hm_order.specs.Marks.{same_op, invokes, commits, commits_with, replies}
-use Rattle.hm_order.specs.Places.{kept, noted, after_invoke, after_commit, after_reply, StandsFor, ArePlaces}
+use Rattle.hm_order.specs.declared.places.Seen.TheVariants.{Invoked, Committed, Replied}
+use Rattle.hm_order.specs.Places.{kept, noted, after, StandsFor, ArePlaces}
 
 pub first_within : {A : Type 0} (p : A → Bool) (xs : List A) → position_or_len p xs ≤ length xs
 first_within p [] = omega arith
@@ -118,7 +119,7 @@ part_kept p xs x n part b before after change other was is new =
     kept_if false o change new = refl
 
 pub more_invoke : (n : ℕ) (old new : Places) (marks : List Mark) (op : OpId) (want : Want) (place : ℕ) → StandsFor n old marks → length marks ≡ place → place < n
-    → ((q : OpId) → get same_op new.ops q ≡ cond (same_op q op) (Some (after_invoke (noted n (get same_op old.ops q)) place)) (get same_op old.ops q))
+    → ((q : OpId) → get same_op new.ops q ≡ cond (same_op q op) (Some (after Invoked (noted n (get same_op old.ops q)) place)) (get same_op old.ops q))
     → ((q : Stamp) → get same_stamp new.versions q ≡ get same_stamp old.versions q)
     → (mark : Mark) → mark ≡ Invoke op want → StandsFor n new (marks ++ mark ∷ [])
 more_invoke n old new marks op want place h size few notes v mark is = subst (λ (m : Mark). StandsFor n new (marks ++ m ∷ [])) (sym is) (let whole : StandsFor n new (marks ++ Invoke op want ∷ []) = record {
@@ -129,7 +130,7 @@ more_invoke n old new marks op want place h size few notes v mark is = subst (λ
 } in whole)
 
 pub more_commit : (n : ℕ) (old new : Places) (marks : List Mark) (op : OpId) (stamp : Stamp) (place : ℕ) → StandsFor n old marks → length marks ≡ place → place < n
-    → ((q : OpId) → get same_op new.ops q ≡ cond (same_op q op) (Some (after_commit (noted n (get same_op old.ops q)) place)) (get same_op old.ops q))
+    → ((q : OpId) → get same_op new.ops q ≡ cond (same_op q op) (Some (after Committed (noted n (get same_op old.ops q)) place)) (get same_op old.ops q))
     → ((q : Stamp) → get same_stamp new.versions q ≡ kept (get same_stamp old.versions q) (cond (same_stamp q stamp) (Some place) None))
     → (mark : Mark) → mark ≡ Commit op stamp → StandsFor n new (marks ++ mark ∷ [])
 more_commit n old new marks op stamp place h size few notes v mark is = subst (λ (m : Mark). StandsFor n new (marks ++ m ∷ [])) (sym is) (let whole : StandsFor n new (marks ++ Commit op stamp ∷ []) = record {
@@ -140,7 +141,7 @@ more_commit n old new marks op stamp place h size few notes v mark is = subst (�
 } in whole)
 
 pub more_reply : (n : ℕ) (old new : Places) (marks : List Mark) (op : OpId) (version : Stamp) (answer : Answer) (place : ℕ) → StandsFor n old marks → length marks ≡ place → place < n
-    → ((q : OpId) → get same_op new.ops q ≡ cond (same_op q op) (Some (after_reply (noted n (get same_op old.ops q)) place)) (get same_op old.ops q))
+    → ((q : OpId) → get same_op new.ops q ≡ cond (same_op q op) (Some (after Replied (noted n (get same_op old.ops q)) place)) (get same_op old.ops q))
     → ((q : Stamp) → get same_stamp new.versions q ≡ get same_stamp old.versions q)
     → (mark : Mark) → mark ≡ Reply op version answer → StandsFor n new (marks ++ mark ∷ [])
 more_reply n old new marks op version answer place h size few notes v mark is = subst (λ (m : Mark). StandsFor n new (marks ++ m ∷ [])) (sym is) (let whole : StandsFor n new (marks ++ Reply op version answer ∷ []) = record {

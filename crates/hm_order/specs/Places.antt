@@ -9,6 +9,8 @@ use Rattle.hm_order.specs.declared.mark.Want.{Want}
 use Rattle.hm_order.specs.declared.mark.Want.TheVariants.{Read, Write}
 use Rattle.hm_order.specs.Order.{read_place, invoke_here, gather}
 use Rattle.hm_order.specs.declared.places.OpPlaces.{OpPlaces}
+use Rattle.hm_order.specs.declared.places.Seen.{Seen}
+use Rattle.hm_order.specs.declared.places.Seen.TheVariants.{Invoked, Committed, Replied}
 use Rattle.hm_order.specs.declared.places.Places.{Places}
 use Rattle.hm_order.specs.declared.places.Behind.{Behind}
 use Rattle.hm_base.specs.Stamps.{same_stamp}
@@ -34,14 +36,10 @@ noted count None = nowhere count
 noted count (Some places) = places
 
 -- the places with one mark more, behind the others
-abbrev pub after_invoke : OpPlaces → ℕ → OpPlaces
-after_invoke o place = record o { invoked = min o.invoked place }
-
-abbrev pub after_commit : OpPlaces → ℕ → OpPlaces
-after_commit o place = record o { committed = min o.committed place }
-
-abbrev pub after_reply : OpPlaces → ℕ → OpPlaces
-after_reply o place = record o { replied = min o.replied place }
+abbrev pub after : Seen → OpPlaces → ℕ → OpPlaces
+after Invoked o place = record o { invoked = min o.invoked place }
+after Committed o place = record o { committed = min o.committed place }
+after Replied o place = record o { replied = min o.replied place }
 
 -- the tables of some first marks of a history, which has so many
 pub record StandsFor (count : ℕ) (places : Places) (marks : List Mark) : Type 0 where

@@ -6,7 +6,7 @@ ghost use Rattle.hm_order.specs.declared.mark.Want.{Want};
 ghost use Rattle.hm_base.specs.declared.operation.OpId.{OpId};
 ghost use Rattle.hm_order.specs.Marks.{At, version_at, version_in, want_of};
 ghost use Rattle.hm_order.specs.Order.{read_place, reads_after, commit_here, order};
-ghost use Rattle.hm_order.specs.Places.{kept, nowhere, noted, after_invoke, after_commit, after_reply, StandsFor, ArePlaces, is_read, PutsInFront, AreBehind};
+ghost use Rattle.hm_order.specs.Places.{kept, nowhere, noted, after, StandsFor, ArePlaces, is_read, PutsInFront, AreBehind};
 
 use crate::mark::{Mark, Want};
 use hm_base::memory::NoMemory;
@@ -22,6 +22,14 @@ pub struct OpPlaces {
     pub invoked: usize,
     pub committed: usize,
     pub replied: usize,
+}
+
+/// What a mark tells of its op.
+#[derive(Clone, Copy, Debug, PartialEq, Eq)]
+pub enum Seen {
+    Invoked,
+    Committed,
+    Replied,
 }
 
 /// The places of each op, and the position of each stamp's first Commit.
@@ -50,48 +58,30 @@ fn nowhere(count: usize) -> OpPlaces
     }
 }
 
-/// Notes an Invoke of the op.
-fn note_invoke<K: Hash + Eq + Drop>(
-    ops: &mut HashMap<K, OpPlaces>,
-    op: K,
-    place: usize,
-    count: usize,
-) -> Result<(), NoMemory>
-    ensures { OnOk result ((q : K) → get K.eq ops.new q
-        ≡ (if K.eq q op then Some (after_invoke (noted count (get K.eq ops.old q)) place) else get K.eq ops.old q)) }
+/// Notes one more place in those of an op.
+fn note_seen(noted: &mut OpPlaces, seen: Seen, place: usize)
+    ensures { noted.new ≡ after seen noted.old place }
 {
-    let noted = ops.entry(op)?.or_insert(nowhere(count));
-    noted.invoked = noted.invoked.min(place);
-    Ok(())
+    match seen {
+        Seen::Invoked => noted.invoked = noted.invoked.min(place),
+        Seen::Committed => noted.committed = noted.committed.min(place),
+        Seen::Replied => noted.replied = noted.replied.min(place),
+    }
 }
 
-/// Notes a Commit of the op.
-fn note_commit<K: Hash + Eq + Drop>(
+/// Notes a mark of the op.
+fn note_op<K: Hash + Eq + Drop>(
     ops: &mut HashMap<K, OpPlaces>,
     op: K,
+    seen: Seen,
     place: usize,
     count: usize,
 ) -> Result<(), NoMemory>
     ensures { OnOk result ((q : K) → get K.eq ops.new q
-        ≡ (if K.eq q op then Some (after_commit (noted count (get K.eq ops.old q)) place) else get K.eq ops.old q)) }
+        ≡ (if K.eq q op then Some (after seen (noted count (get K.eq ops.old q)) place) else get K.eq ops.old q)) }
 {
     let noted = ops.entry(op)?.or_insert(nowhere(count));
-    noted.committed = noted.committed.min(place);
-    Ok(())
-}
-
-/// Notes a Reply to the op.
-fn note_reply<K: Hash + Eq + Drop>(
-    ops: &mut HashMap<K, OpPlaces>,
-    op: K,
-    place: usize,
-    count: usize,
-) -> Result<(), NoMemory>
-    ensures { OnOk result ((q : K) → get K.eq ops.new q
-        ≡ (if K.eq q op then Some (after_reply (noted count (get K.eq ops.old q)) place) else get K.eq ops.old q)) }
-{
-    let noted = ops.entry(op)?.or_insert(nowhere(count));
-    noted.replied = noted.replied.min(place);
+    note_seen(noted, seen, place);
     Ok(())
 }
 
@@ -123,12 +113,12 @@ fn note_mark(places: &mut Places, mark: &Mark, place: usize, count: usize) -> Re
     ensures { OnOk result ((marks : List Mark) → StandsFor count places.old marks → length marks ≡ place → StandsFor count places.new (marks ++ mark.now ∷ [])) }
 {
     match mark {
-        Mark::Invoke { op, .. } => note_invoke(&mut places.ops, *op, place, count),
+        Mark::Invoke { op, .. } => note_op(&mut places.ops, *op, Seen::Invoked, place, count),
         Mark::Commit { op, stamp } => {
-            note_commit(&mut places.ops, *op, place, count)?;
+            note_op(&mut places.ops, *op, Seen::Committed, place, count)?;
             note_version(&mut places.versions, *stamp, place)
         }
-        Mark::Reply { op, .. } => note_reply(&mut places.ops, *op, place, count),
+        Mark::Reply { op, .. } => note_op(&mut places.ops, *op, Seen::Replied, place, count),
     }
 }
 

@@ -4,7 +4,11 @@ ghost use Rattle.std.specs.Prelude.{◌≡◌, IfOk};
 ghost use Rattle.hm_replay.specs.Commands.{IsMade, made_lines};
 ghost use Rattle.hm_replay.specs.Summaries.{summary_of};
 ghost use Rattle.hm_replay.specs.Written.{EndsWriting};
+ghost use Rattle.hm_rules.specs.Runs.{slotted};
+ghost use Rattle.hm_rules.specs.World.{opens};
+ghost use Rattle.hm_schedule.specs.Orders as orders;
 ghost use Rattle.hm_schedule.specs.Orders.{lines_text};
+ghost use Rattle.hm_world.specs.WorldFields.{with_slots};
 
 use crate::status::Status;
 use crate::summary::{Counts, write_end, write_outcomes};
@@ -72,14 +76,24 @@ fn summary(alloc: Global, made: Made) -> Result<Text, NoMemory>
     requires { IsMade made }
     ensures { IfOk result (λ text. text.items ≡ summary_of (made_lines made)) }
 {
+    let Ok(mut world) = World::open(alloc, &default_setup(made.kind, made.size)) else {
+        return Err(NoMemory);
+    };
+    sum_up(alloc, made, &mut world)
+}
+
+/// Runs the schedule that is made in a world opened for it, and writes the summary.
+fn sum_up(alloc: Global, made: Made, world: &mut World) -> Result<Text, NoMemory>
+    requires made { IsMade made }
+    requires opened { with_slots world.old ≡ slotted (opens (orders.default_setup made.kind made.size)) }
+    requires events { world.old.events ≡ 0 }
+    ensures { IfOk result (λ text. text.items ≡ summary_of (made_lines made)) }
+{
     generated_is_a_schedule();
     full_events_are_the_refusals();
     outcomes_are_the_slotted_runs();
     slotted_run_goes_on();
     every_group_is_linearizable();
-    let Ok(mut world) = World::open(alloc, &default_setup(made.kind, made.size)) else {
-        return Err(NoMemory);
-    };
     let mut generator = Generator::open(made.number, made.kind, made.size);
     let _group = generator.next_line();
     let mut counts = Counts::none();

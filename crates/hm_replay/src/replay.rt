@@ -1,4 +1,4 @@
-ghost use Rattle.std.specs.Prelude.{◌≡◌, ◌≢◌, ◌+◌, ◌≤◌, ◌++◌, ◌⊎◌, ℕ, List, [], ◌∷◌, length, Some, codes, flat_map, map, string_bytes};
+ghost use Rattle.std.specs.Prelude.{◌≡◌, ◌≢◌, ◌+◌, ◌≤◌, ◌++◌, ◌⊎◌, ℕ, List, [], ◌∷◌, length, Some, codes, flat_map, map, string_bytes, Option};
 ghost use Rattle.std.specs.List.{AllByRecursion};
 ghost use Rattle.hm_packet.specs.Messages.{Message};
 ghost use Rattle.hm_wire.specs.Packets.{HasSpelling};
@@ -6,6 +6,8 @@ ghost use Rattle.hm_frame.specs.Frames.{frame};
 ghost use Rattle.hm_show.specs.Shows.{max_frames};
 ghost use Rattle.hm_order.specs.Order.{order};
 ghost use Rattle.hm_rules.specs.RunText.{order_text};
+ghost use Rattle.hm_rules.specs.Runs.{slotted};
+ghost use Rattle.hm_rules.specs.World.{opens};
 ghost use Rattle.hm_replay.specs.Statuses.{Ends, EndsShow, refused};
 ghost use Rattle.hm_outside.specs.Faults.{Rose};
 ghost use Rattle.hm_outside.specs.Puts.{Puts};
@@ -14,10 +16,13 @@ ghost use Rattle.hm_replay.specs.Replays.{IsWholeRun, IsRefusedRun, refusal_text
 ghost use Rattle.hm_replay.specs.Summaries.{summary_of};
 ghost use Rattle.hm_replay.specs.Written.{EndsWriting};
 ghost use Rattle.hm_replay.specs.declared.words.Made.{Made};
+ghost use Rattle.hm_schedule.specs.Nexts.{Opens};
 ghost use Rattle.hm_schedule.specs.Orders.{IsBegun, IsSchedule, IsOutside, lines_text, stage_of};
 ghost use Rattle.hm_schedule.specs.Refusals.{BreaksOff, IsRefused};
+ghost use Rattle.hm_schedule.specs.Setups.{setup_of};
 ghost use Rattle.hm_schedule.specs.declared.line.Line.{Line};
 ghost use Rattle.hm_schedule.specs.declared.line.LineReason.{LineReason};
+ghost use Rattle.hm_world.specs.WorldFields.{with_slots};
 
 use crate::commands::{put_schedule, put_summary};
 use crate::events::write_event;
@@ -30,6 +35,7 @@ use hm_outside::device::{NotPut, Sink, Source, put_all, put_closing};
 use hm_outside::law::calls_add_up;
 use hm_schedule::law::{bytes_break_off_once, schedules_grow_by_lines};
 use hm_schedule::lines::LineReader;
+use hm_schedule::opening::Opening;
 use hm_schedule::reading::{NextEvent, next_event, read_opening};
 use hm_schedule::refusal::Refusal;
 use hm_show::show::show;
@@ -136,18 +142,50 @@ fn replay<S: Source, K: Sink>(alloc: Global, source: &mut S, sink: &mut K) -> St
     let Ok(mut reader) = LineReader::open(alloc) else {
         return Status::NoMemory;
     };
-    let mut text = Text::new(alloc);
-    let (opening, mut next) = match read_opening(&mut reader, source) {
+    let (opening, first) = match read_opening(&mut reader, source) {
         Ok(opened) => opened,
         Err(_) => return Status::ReadFault,
     };
     let Ok(mut world) = World::open(alloc, &opening.setup) else {
         return Status::NoMemory;
     };
+    play(
+        alloc,
+        &opening,
+        first,
+        &mut world,
+        &mut reader,
+        source,
+        sink,
+    )
+}
+
+/// Runs a schedule in the world that its opening lines set up, from what comes first behind them on.
+fn play<S: Source, K: Sink>(
+    alloc: Global,
+    opening: &Opening,
+    first: NextEvent,
+    world: &mut World,
+    reader: &mut LineReader,
+    source: &mut S,
+    sink: &mut K,
+) -> Status
+    requires opens { (left : Option (List ℕ)) × Opens opening.now first reader.old.ahead left (S.left source.old) }
+    requires opened { with_slots world.old ≡ slotted (opens (setup_of opening.now.setup)) }
+    requires events { world.old.events ≡ 0 }
+    ensures { (left : Option (List ℕ)) → Opens opening.now first reader.old.ahead left (S.left source.old)
+        → Ends result left (S.left source.new) (K.held sink.old) (K.held sink.new)
+        (record { read_before = S.faults source.old; read_after = S.faults source.new; put_before = K.faults sink.old; put_after = K.faults sink.new }) }
+{
+    calls_add_up();
+    schedules_grow_by_lines();
+    schedules_run_lawfully();
+    let mut text = Text::new(alloc);
+    let mut next = first;
     loop {
         match next {
             NextEvent::Event(event) => {
-                match write_event(&mut world, &event, &mut text) {
+                match write_event(world, &event, &mut text) {
                     Ok(()) => {}
                     Err(_) => return Status::NoMemory,
                 }
@@ -157,7 +195,7 @@ fn replay<S: Source, K: Sink>(alloc: Global, source: &mut S, sink: &mut K) -> St
                 }
             }
             NextEvent::End => {
-                return ended(finish(alloc, &world, &mut text, sink), Status::Done);
+                return ended(finish(alloc, world, &mut text, sink), Status::Done);
             }
             NextEvent::Refused(refusal) => {
                 let line = opening.lines + world.events() + 1;
@@ -165,7 +203,7 @@ fn replay<S: Source, K: Sink>(alloc: Global, source: &mut S, sink: &mut K) -> St
                 return ended(closed, refused(line, refusal));
             }
         }
-        next = match next_event(&mut reader, source, world.events()) {
+        next = match next_event(reader, source, world.events()) {
             Ok(next) => next,
             Err(_) => return Status::ReadFault,
         };

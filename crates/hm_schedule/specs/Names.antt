@@ -23,6 +23,14 @@ keyword_text keyword.Timeout = codes "timeout"
 keyword_text keyword.Retire = codes "retire"
 keyword_text keyword.Start = codes "start"
 
+abbrev pub opening_named : List ℕ → Option Keyword
+opening_named word =
+    if bytes_eq word (codes "group") then Some keyword.Group
+    else if bytes_eq word (codes "table") then Some keyword.Table
+    else if bytes_eq word (codes "life") then Some keyword.Life
+    else if bytes_eq word (codes "log") then Some keyword.Log
+    else None
+
 abbrev pub rarely_named : List ℕ → Option Keyword
 rarely_named word =
     if bytes_eq word (codes "tick") then Some keyword.Tick
@@ -31,11 +39,7 @@ rarely_named word =
     else if bytes_eq word (codes "timeout") then Some keyword.Timeout
     else if bytes_eq word (codes "retire") then Some keyword.Retire
     else if bytes_eq word (codes "start") then Some keyword.Start
-    else if bytes_eq word (codes "group") then Some keyword.Group
-    else if bytes_eq word (codes "table") then Some keyword.Table
-    else if bytes_eq word (codes "life") then Some keyword.Life
-    else if bytes_eq word (codes "log") then Some keyword.Log
-    else None
+    else opening_named word
 
 -- the keyword that is this word
 abbrev pub named : List ℕ → Option Keyword

@@ -1,5 +1,5 @@
 ghost use Rattle.std.specs.Prelude.{◌≡◌};
-ghost use Rattle.hm_schedule.specs.Names.{named, rarely_named};
+ghost use Rattle.hm_schedule.specs.Names.{named, opening_named, rarely_named};
 
 /// The first word of a line.
 #[derive(Clone, Copy, Debug, PartialEq, Eq)]
@@ -60,7 +60,7 @@ pub(crate) fn keyword_of(word: &[u8]) -> Option<Keyword>
     }
 }
 
-/// The keyword of a line that seldom comes.
+/// The keyword of any other line.
 fn rare_keyword_of(word: &[u8]) -> Option<Keyword>
     ensures { result ≡ rarely_named word.now }
 {
@@ -76,7 +76,16 @@ fn rare_keyword_of(word: &[u8]) -> Option<Keyword>
         Some(Keyword::Retire)
     } else if word == b"start".as_slice() {
         Some(Keyword::Start)
-    } else if word == b"group".as_slice() {
+    } else {
+        opening_keyword_of(word)
+    }
+}
+
+/// The keyword of an opening line.
+fn opening_keyword_of(word: &[u8]) -> Option<Keyword>
+    ensures { result ≡ opening_named word.now }
+{
+    if word == b"group".as_slice() {
         Some(Keyword::Group)
     } else if word == b"table".as_slice() {
         Some(Keyword::Table)

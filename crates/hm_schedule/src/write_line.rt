@@ -1,6 +1,6 @@
 //! Lines of schedules as text.
 
-ghost use Rattle.std.specs.Prelude.{◌≡◌, ◌∷◌, ◌++◌, decimal, OnOk, OnErr};
+ghost use Rattle.std.specs.Prelude.{◌≡◌, [], ◌∷◌, ◌++◌, decimal, OnOk, OnErr};
 ghost use Rattle.hm_base.specs.Lists.{IsPrefix};
 ghost use Rattle.hm_base.specs.Spellings.{spaced};
 ghost use Rattle.hm_schedule.specs.Names.{keyword_text, kind_text};
@@ -141,8 +141,7 @@ fn push_event_fields(event: &Event, out: &mut Text) -> Result<(), NoMemory>
             value,
             switch,
         } => {
-            push_number(*client, out)?;
-            push_number(*object, out)?;
+            push_op(*client, *object, out)?;
             write_bytes(b" ", out)?;
             write_value(value, out)?;
             push_number(*switch, out)
@@ -152,8 +151,7 @@ fn push_event_fields(event: &Event, out: &mut Text) -> Result<(), NoMemory>
             object,
             switch,
         } => {
-            push_number(*client, out)?;
-            push_number(*object, out)?;
+            push_op(*client, *object, out)?;
             push_number(*switch, out)
         }
         Event::Resend { client, switch } => {
@@ -167,6 +165,15 @@ fn push_event_fields(event: &Event, out: &mut Text) -> Result<(), NoMemory>
         | Event::Timeout { replica } => push_number(u32::from(*replica), out),
         Event::Next | Event::Drop | Event::Retire | Event::Start => Ok(()),
     }
+}
+
+/// Appends a client and an object, each behind a space.
+fn push_op(client: u32, object: u32, out: &mut Text) -> Result<(), NoMemory>
+    ensures ok { OnOk result (out.new.items ≡ out.old.items ++ spaced (decimal client ∷ decimal object ∷ [])) }
+    ensures err { OnErr result (IsPrefix out.old.items out.new.items) }
+{
+    push_number(client, out)?;
+    push_number(object, out)
 }
 
 /// Appends a space and a word.

@@ -1,3 +1,5 @@
+ghost use Rattle.std.specs.Prelude.{◌≡◌};
+
 use crate::frame::READ_FRAME;
 use hm_base::node::GroupKind;
 use hm_packet::outcome::Outcome;
@@ -23,8 +25,12 @@ const READ: Event = Event::Read {
 };
 
 /// What the first read of a client comes to: the outcome, the packet sent, and how many events and marks there are then.
-fn after_a_read(alloc: Global) -> Result<(Outcome, Vec<u8>, u32, usize), Fail> {
-    let mut world = World::open(alloc, &ONE)?;
+fn after_a_read(
+    alloc: Global,
+    world: &mut World,
+) -> Result<(Outcome, Vec<u8>, u32, usize), Fail>
+    requires { world.old.events ≡ 0 }
+{
     let outcome = world.event(&READ)?;
     let sent = world.sent(world.sent_count()).ok_or("a packet")?;
     let sent = sent.to_vec(alloc)?;
@@ -34,7 +40,8 @@ fn after_a_read(alloc: Global) -> Result<(Outcome, Vec<u8>, u32, usize), Fail> {
 // Longer schedules stand in the crate of the replay, whose one call takes a whole schedule.
 #[test]
 fn a_read_is_sent(rt: HostRuntime) -> Result<(), Fail> {
-    let (outcome, sent, events, marks) = after_a_read(rt.alloc())?;
+    let mut world = World::open(rt.alloc(), &ONE)?;
+    let (outcome, sent, events, marks) = after_a_read(rt.alloc(), &mut world)?;
     assert_eq!(rt; outcome, Outcome::Ok { first: 1, count: 1 });
     assert_eq!(rt; sent.as_slice(), &READ_FRAME[2..]);
     assert_eq!(rt; (events, marks), (1, 1));
