@@ -1,4 +1,4 @@
-use Rattle.std.proofs.Common.{◌≡◌, refl, sym, ap, ◌∙◌}
+use Rattle.std.proofs.Common.{refl, ap, ◌∙◌}
 use Rattle.hm_outside.specs.Faults.{one_more}
 use Rattle.hm_replay.proofs.Putting.{starts, writes, puts, ends, cut_short, failed}
 use Rattle.hm_replay.proofs.commands.put_schedule.Goals as goal

@@ -1,4 +1,4 @@
-use Rattle.std.proofs.Common.{◌≡◌, ap, ◌∙◌}
+use Rattle.std.proofs.Common.{ap, ◌∙◌}
 use Rattle.hm_rules.specs.Events as rule
 use Rattle.hm_rules.specs.World.{opens}
 use Rattle.hm_rules.specs.Runs.{slotted}

@@ -1,4 +1,4 @@
-use Rattle.std.proofs.Common.{◌≡◌, ◌+◌, ◌<◌, length, ◌∙◌, arith}
+use Rattle.std.proofs.Common.{◌+◌, ◌<◌, length, ◌∙◌, arith}
 use Rattle.hm_rules.specs.World.{sent_at}
 use Rattle.hm_replay.proofs.PacketLines.{lines_more, some_sent, sent_next, sent_spelled, not_copied}
 use Rattle.hm_replay.proofs.events.write_sent_from.Goals as goal

@@ -1,14 +1,10 @@
-use Rattle.std.proofs.Common.{◌≡◌, ◌≢◌, ◌≤◌, ◌<◌, ◌^◌, ◌%◌, ℕ, Bool, true, false, List, [], ◌∷◌, ◌++◌, length, refl, ap, subst, arith}
+use Rattle.std.proofs.Common.{◌≡◌, ◌≢◌, ◌≤◌, ◌<◌, ◌^◌, ℕ, Bool, true, false, List, [], ◌∷◌, ◌++◌, length, refl, ap, arith}
 use Rattle.std.specs.Prelude.{All, nat_eq, if◌then◌else◌}
 use Rattle.std.specs.List.{AllByRecursion}
 use Rattle.std.proofs.lemmas.List.Elements.{All-from_recursion}
-use Rattle.hm_base.specs.declared.node.GroupKind.{GroupKind}
-use Rattle.hm_rules.specs.Events.{Setup}
-use Rattle.hm_group_laws.specs.Groups.{CanForm}
 use Rattle.hm_schedule.specs.Limits.{max_events}
 use Rattle.hm_schedule.specs.Orders.{setup_in, events_in}
 use Rattle.hm_schedule.specs.Reasons.{reason_text}
-use Rattle.hm_schedule.specs.Schedules.{IsLawfulGroup}
 use Rattle.hm_rules.specs.RunText.{bad_text, too_long_text}
 use Rattle.hm_schedule.specs.declared.line.Line.{Line}
 use Rattle.hm_schedule.specs.declared.line.LineReason.{LineReason}

@@ -1,4 +1,4 @@
-use Rattle.std.proofs.Common.{◌≡◌, ℕ, List, Option, [], refl, subst}
+use Rattle.std.proofs.Common.{ℕ, [], refl, subst}
 use Rattle.hm_replay.specs.Statuses.{Ends}
 use Rattle.hm_replay.proofs.Progress.{ends_cut_opening, ends_empty, ends_opening}
 use Rattle.hm_replay.proofs.replay.replay.Goals as goal

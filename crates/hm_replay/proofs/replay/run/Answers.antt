@@ -1,4 +1,4 @@
-use Rattle.std.proofs.Common.{◌≡◌, inl, inr}
+use Rattle.std.proofs.Common.{inl, inr}
 use Rattle.std.proofs.lemmas.Option.{none-some}
 use Rattle.hm_replay.specs.declared.words.Command.TheVariants as command
 use Rattle.hm_replay.proofs.Items.{schedule_same, generate_same}

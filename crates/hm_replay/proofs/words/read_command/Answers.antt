@@ -1,7 +1,6 @@
-use Rattle.std.proofs.Common.{◌≡◌, ◌∷◌, [], List, ℕ, Some, None, sym, ap, ◌∙◌}
-use Rattle.std.specs.Prelude.{map, string_bytes}
+use Rattle.std.proofs.Common.{sym, ◌∙◌}
+use Rattle.std.specs.Prelude.{string_bytes}
 use Rattle.std.proofs.lemmas.Option.{none-some}
-use Rattle.hm_replay.specs.Commands.{made_words}
 use Rattle.hm_replay.proofs.Items.{four_texts, three_same, cons_same, of_four}
 use Rattle.hm_replay.proofs.words.read_command.Goals as goal
 

@@ -1,4 +1,4 @@
-use Rattle.std.proofs.Common.{◌≡◌, ◌^◌, ◌<◌, ◌∷◌, [], Some, sym, ap, ◌∙◌, rules, arith}
+use Rattle.std.proofs.Common.{◌≡◌, ◌∷◌, [], Some, sym, ap, ◌∙◌, rules}
 use Rattle.hm_replay.specs.Commands.{IsMade, made_words}
 use Rattle.hm_replay.specs.declared.words.Made.{Made}
 use Rattle.hm_replay.proofs.Items.{made_same}
