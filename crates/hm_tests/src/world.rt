@@ -25,10 +25,7 @@ const READ: Event = Event::Read {
 };
 
 /// What the first read of a client comes to: the outcome, the packet sent, and how many events and marks there are then.
-fn after_a_read(
-    alloc: Global,
-    world: &mut World,
-) -> Result<(Outcome, Vec<u8>, u32, usize), Fail>
+fn after_a_read(alloc: Global, world: &mut World) -> Result<(Outcome, Vec<u8>, u32, usize), Fail>
     requires { world.old.events ≡ 0 }
 {
     let outcome = world.event(&READ)?;

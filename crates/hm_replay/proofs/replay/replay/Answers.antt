@@ -22,5 +22,5 @@ pub returns : goal.returns
 returns g c =
     subst
     (λ (n : ℕ). Ends c.play.result (g.S.Source.left c.args.source.now) (g.S.Source.left c.play.new.source) (g.K.Sink.held c.args.sink.now) (g.K.Sink.held c.play.new.sink)
-        (record { read_before = n; read_after = g.S.Source.faults c.play.new.source; put_before = g.K.Sink.faults c.args.sink.now; put_after = g.K.Sink.faults c.play.new.sink }))
+    (record { read_before = n; read_after = g.S.Source.faults c.play.new.source; put_before = g.K.Sink.faults c.args.sink.now; put_after = g.K.Sink.faults c.play.new.sink }))
     c.in-Ok-read_opening.ensures.counted (c.play.ensures _ c.in-Ok-read_opening.ensures.opens)
