@@ -6,6 +6,7 @@ use hm_packet::body::{Body, Read};
 use hm_packet::packet::Packet;
 use hm_wire::malformed::{Malformed, Reason};
 use std::alloc::Global;
+use std::process::Abort;
 use std::test::Fail;
 
 /// The frame of `c8 s1 read 1 5`.
@@ -49,11 +50,10 @@ fn frames_a_packet(rt: HostRuntime) -> Result<(), Fail> {
     Ok(())
 }
 
-#[test]
-fn gives_a_packet_at_its_last_byte(rt: HostRuntime) -> Result<(), Fail> {
-    let mut unframer = Unframer::new(rt.alloc());
+/// Feeds a frame byte by byte, and takes its packet behind the last.
+fn assert_given(rt: &impl Abort, unframer: &mut Unframer) -> Result<(), Fail> {
     for (i, byte) in READ_FRAME.iter().enumerate() {
-        assert_eq!(rt; (next_of(&mut unframer), unframer.held()), (Ok(false), i));
+        assert_eq!(rt; (next_of(unframer), unframer.held()), (Ok(false), i));
         unframer.feed(&[*byte])?;
     }
     let mut room = PageRoom::new();
@@ -63,11 +63,14 @@ fn gives_a_packet_at_its_last_byte(rt: HostRuntime) -> Result<(), Fail> {
     frame(&packet, &mut buf);
     assert_eq!(rt; buf.as_slice(), READ_FRAME.as_slice());
     let held = unframer.held();
-    assert_eq!(rt;
-        (given, held, next_of(&mut unframer)),
-        (Ok(true), 0, Ok(false))
-    );
+    assert_eq!(rt; (given, held, next_of(unframer)), (Ok(true), 0, Ok(false)));
     Ok(())
+}
+
+#[test]
+fn gives_a_packet_at_its_last_byte(rt: HostRuntime) -> Result<(), Fail> {
+    let mut unframer = Unframer::new(rt.alloc());
+    assert_given(&rt, &mut unframer)
 }
 
 #[test]

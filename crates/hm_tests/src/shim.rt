@@ -10,6 +10,7 @@ use hm_shim::shim::{Local, Shim, reply_to};
 use hm_store::ledger::Ledger;
 use hm_store::staged::Staged;
 use std::alloc::Global;
+use std::process::Abort;
 use std::test::Fail;
 
 fn stamp(seq: u64) -> Stamp {
@@ -152,11 +153,11 @@ fn adopted_log_brings_its_clients(rt: HostRuntime) -> Result<(), Fail> {
     Ok(())
 }
 
-#[test]
-fn keeps_the_front_of_a_log(rt: HostRuntime) -> Result<(), Fail> {
-    let first = Value::from_slice(b"a").ok_or("a value")?;
-    let second = Value::from_slice(b"b").ok_or("a value")?;
-    let mut log = Ledger::open(rt.alloc(), 2)?;
+/// Puts two entries into an empty log, and cuts it to the first.
+fn assert_front(rt: &impl Abort, log: &mut Ledger, first: Value, second: Value)
+    requires empty { log.old.entries ≡ [] }
+    requires applied { log.old.applied ≡ 0 }
+{
     assert!(rt; log.push(write(1, 7, 3, first)).is_ok());
     assert!(rt; log.push(write(2, 8, 1, second)).is_ok());
     assert_eq!(rt; log.page(1).get(0), Some(write(2, 8, 1, second)));
@@ -167,6 +168,14 @@ fn keeps_the_front_of_a_log(rt: HostRuntime) -> Result<(), Fail> {
     assert_eq!(rt; log.applied(5), None);
     assert_eq!(rt; log.entry(1), None);
     assert_eq!(rt; log.last_applied(), None);
+}
+
+#[test]
+fn keeps_the_front_of_a_log(rt: HostRuntime) -> Result<(), Fail> {
+    let first = Value::from_slice(b"a").ok_or("a value")?;
+    let second = Value::from_slice(b"b").ok_or("a value")?;
+    let mut log = Ledger::open(rt.alloc(), 2)?;
+    assert_front(&rt, &mut log, first, second);
     Ok(())
 }
 

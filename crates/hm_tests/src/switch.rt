@@ -105,24 +105,35 @@ fn opens_within_its_ranges(rt: HostRuntime) {
     }
 }
 
-/// Whether object 5 is dirty and the switch active before and after the completion of its write, and the switch then.
-fn numbered(alloc: Global, out: &mut Text) -> Result<([(bool, bool); 2], Switch), Fail> {
-    let mut switch = Switch::open(alloc, 1, 3, 10, 100, &route(0)).map_err(|_| "memory")?;
-    told(&mut switch, &[read(5), write(5)], out)?;
+/// Whether object 5 is dirty and the switch active before and after the completion of its write, and then the stamp and how many
+/// turns there were.
+fn numbered(
+    switch: &mut Switch,
+    out: &mut Text,
+) -> Result<([(bool, bool); 2], Option<Stamp>, u32), Fail> {
+    told(switch, &[read(5), write(5)], out)?;
     let before = (switch.dirty(5), switch.active());
-    told(&mut switch, &[done(1, 1)], out)?;
+    told(switch, &[done(1, 1)], out)?;
     let after = (switch.dirty(5), switch.active());
-    told(&mut switch, &[read(5)], out)?;
-    Ok(([before, after], switch))
+    told(switch, &[read(5)], out)?;
+    Ok(([before, after], switch.stamp(), switch.turns()))
+}
+
+/// The same of a new switch.
+fn numbered_by_one(
+    alloc: Global,
+    out: &mut Text,
+) -> Result<([(bool, bool); 2], Option<Stamp>, u32), Fail> {
+    let mut switch = Switch::open(alloc, 1, 3, 10, 100, &route(0)).map_err(|_| "memory")?;
+    numbered(&mut switch, out)
 }
 
 #[test]
 fn numbers_writes_and_stamps_reads(rt: HostRuntime) -> Result<(), Fail> {
     let mut out = Text::new(rt.alloc());
-    let (states, switch) = numbered(rt.alloc(), &mut out)?;
+    let (states, stamp, turns) = numbered_by_one(rt.alloc(), &mut out)?;
     assert_eq!(rt; states, [(true, false), (false, true)]);
-    assert_eq!(rt; switch.stamp(), Some(Stamp { switch: 1, seq: 1 }));
-    assert_eq!(rt; switch.turns(), 4);
+    assert_eq!(rt; (stamp, turns), (Some(Stamp { switch: 1, seq: 1 }), 4));
     assert_eq!(rt;
         out.as_slice(),
         b"s1 r0 normalread 8 1 5

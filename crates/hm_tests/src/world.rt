@@ -24,7 +24,7 @@ const READ: Event = Event::Read {
     switch: 1,
 };
 
-/// What the first read of a client comes to: the outcome, the packet sent, and how many events and marks there are then.
+/// What a client's read comes to in a new world: the outcome, the packet sent, and how many events and marks there are then.
 fn after_a_read(alloc: Global, world: &mut World) -> Result<(Outcome, Vec<u8>, u32, usize), Fail>
     requires { world.old.events ≡ 0 }
 {
@@ -34,11 +34,16 @@ fn after_a_read(alloc: Global, world: &mut World) -> Result<(Outcome, Vec<u8>, u
     Ok((outcome, sent, world.events(), world.history().marks().len()))
 }
 
+/// The same of a world of one replica.
+fn after_the_first_read(alloc: Global) -> Result<(Outcome, Vec<u8>, u32, usize), Fail> {
+    let mut world = World::open(alloc, &ONE)?;
+    after_a_read(alloc, &mut world)
+}
+
 // Longer schedules stand in the crate of the replay, whose one call takes a whole schedule.
 #[test]
 fn a_read_is_sent(rt: HostRuntime) -> Result<(), Fail> {
-    let mut world = World::open(rt.alloc(), &ONE)?;
-    let (outcome, sent, events, marks) = after_a_read(rt.alloc(), &mut world)?;
+    let (outcome, sent, events, marks) = after_the_first_read(rt.alloc())?;
     assert_eq!(rt; outcome, Outcome::Ok { first: 1, count: 1 });
     assert_eq!(rt; sent.as_slice(), &READ_FRAME[2..]);
     assert_eq!(rt; (events, marks), (1, 1));
