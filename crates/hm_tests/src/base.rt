@@ -1,7 +1,5 @@
 use hm_base::buffer::Text;
-use hm_base::entries::PageRoom;
-use hm_base::entry::{Act, Entry};
-use hm_base::members::{Members, NotRising};
+use hm_base::entry::Act;
 use hm_base::node::Node;
 use hm_base::operation::{Answer, OpId};
 use hm_base::spelling::{read_number, read_value};
@@ -69,55 +67,6 @@ fn reads_values_in_one_spelling(rt: HostRuntime) -> Result<(), Fail> {
     for text in refused {
         assert!(rt; read_value(text).is_none());
     }
-    Ok(())
-}
-
-/// What it comes to that three replicas are put behind replica 2, and the members then.
-fn risen() -> Result<([Result<(), NotRising>; 3], Members), Fail> {
-    let mut members = Members::first(2).ok_or("a replica")?;
-    let pushed = [
-        members.try_push(2),
-        members.try_push(5),
-        members.try_push(7),
-    ];
-    Ok((pushed, members.copy()))
-}
-
-#[test]
-fn holds_members_in_rising_order(rt: HostRuntime) -> Result<(), Fail> {
-    assert!(rt; Members::first(7).is_none());
-    let (pushed, members) = risen()?;
-    assert_eq!(rt; pushed, [Err(NotRising), Ok(()), Err(NotRising)]);
-    assert_eq!(rt; members.as_slice(), [2, 5].as_slice());
-    assert_eq!(rt;
-        (members.len(), members.get(1), members.get(2)),
-        (2, Some(5), None)
-    );
-    Ok(())
-}
-
-#[test]
-fn holds_sixteen_entries(rt: HostRuntime) -> Result<(), Fail> {
-    let value = Value::from_slice(b"a").ok_or("a value")?;
-    let act = Act::Put(value);
-    let write = Entry {
-        stamp: Stamp { switch: 1, seq: 1 },
-        client: 7,
-        request: 1,
-        object: 5,
-        act,
-    };
-    assert!(rt; write.is_write());
-    let mut room = PageRoom::new();
-    for _ in 0..16 {
-        assert!(rt; room.try_push(write).is_ok());
-    }
-    assert!(rt; room.try_push(write).is_err());
-    let copy = room.entries().copy();
-    assert_eq!(rt; copy.len(), 16);
-    assert_eq!(rt; copy.as_slice().len(), 16);
-    assert!(rt; copy.get(15).is_some());
-    assert!(rt; copy.get(16).is_none());
     Ok(())
 }
 

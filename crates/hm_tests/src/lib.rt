@@ -9,8 +9,6 @@ mod codec;
 #[cfg(test)]
 mod commands;
 #[cfg(test)]
-mod dirtyset;
-#[cfg(test)]
 mod frame;
 #[cfg(test)]
 mod generator;

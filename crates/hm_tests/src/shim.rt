@@ -7,10 +7,7 @@ use hm_base::verdict::{Admit, Verdict};
 use hm_base::why::Why;
 use hm_packet::body::{FastRead, Put};
 use hm_shim::shim::{Local, Shim, reply_to};
-use hm_store::ledger::Ledger;
-use hm_store::staged::Staged;
 use std::alloc::Global;
-use std::process::Abort;
 use std::test::Fail;
 
 fn stamp(seq: u64) -> Stamp {
@@ -150,49 +147,5 @@ fn adopted_log_brings_its_clients(rt: HostRuntime) -> Result<(), Fail> {
     let (verdicts, last) = adopted(rt.alloc(), value)?;
     assert_eq!(rt; verdicts, [Verdict::New, Verdict::Again { index: 0 }]);
     assert_eq!(rt; last, stamp(2));
-    Ok(())
-}
-
-/// Puts two entries into an empty log, and cuts it to the first.
-fn assert_front(rt: &impl Abort, log: &mut Ledger, first: Value, second: Value)
-    requires empty { log.old.entries ≡ [] }
-    requires applied { log.old.applied ≡ 0 }
-{
-    assert!(rt; log.push(write(1, 7, 3, first)).is_ok());
-    assert!(rt; log.push(write(2, 8, 1, second)).is_ok());
-    assert_eq!(rt; log.page(1).get(0), Some(write(2, 8, 1, second)));
-    assert_eq!(rt; log.latest(5), Some((stamp(2), second)));
-    log.truncate(1);
-    assert_eq!(rt; log.len(), 1);
-    assert_eq!(rt; log.latest(5), Some((stamp(1), first)));
-    assert_eq!(rt; log.applied(5), None);
-    assert_eq!(rt; log.entry(1), None);
-    assert_eq!(rt; log.last_applied(), None);
-}
-
-#[test]
-fn keeps_the_front_of_a_log(rt: HostRuntime) -> Result<(), Fail> {
-    let first = Value::from_slice(b"a").ok_or("a value")?;
-    let second = Value::from_slice(b"b").ok_or("a value")?;
-    let mut log = Ledger::open(rt.alloc(), 2)?;
-    assert_front(&rt, &mut log, first, second);
-    Ok(())
-}
-
-/// How many entries are staged, in two ways, how long the log and they are together, and how many are staged once they are cleared.
-fn staged(alloc: Global, value: Value) -> Result<(u32, usize, u32, u32), Fail> {
-    let shim = lagging(alloc, value, value)?;
-    let mut staged = Staged::open(alloc, 2)?;
-    staged.extend(&[write(3, 9, 1, value)]);
-    let (len, listed) = (staged.len(), staged.as_slice().len());
-    let both = shim.staged_len(&staged);
-    staged.clear();
-    Ok((len, listed, both, staged.len()))
-}
-
-#[test]
-fn stages_behind_what_is_applied(rt: HostRuntime) -> Result<(), Fail> {
-    let value = Value::from_slice(b"a").ok_or("a value")?;
-    assert_eq!(rt; staged(rt.alloc(), value)?, (1, 1, 2, 0));
     Ok(())
 }
