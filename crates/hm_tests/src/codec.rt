@@ -469,12 +469,3 @@ fn refuses_what_follows_a_packet(rt: HostRuntime) -> Result<(), Fail> {
     bytes[..26].copy_from_slice(WRITE.bytes);
     assert_fault(&rt, &bytes, 26, Reason::Rest)
 }
-
-#[test]
-fn holds_2048_bytes_at_most(rt: HostRuntime) -> Result<(), Fail> {
-    let long = [7; 2049];
-    assert!(&rt; Buf::<MAX_LEN>::from_slice(&long).is_none());
-    let buf = Buf::<MAX_LEN>::from_slice(&long[..2048]).ok_or("2,048 bytes")?;
-    assert_eq!(&rt; buf.as_slice(), &long[..2048]);
-    Ok(())
-}

@@ -7,9 +7,7 @@ use hm_base::value::Value;
 use hm_outside::memory::{MemorySink, MemorySource};
 use hm_replay::replay::run;
 use hm_replay::status::Status;
-use hm_replay::words::{Command, Made, read_command};
 use hm_schedule::event::Event;
-use hm_schedule::group_words::read_group_words;
 use hm_schedule::line::{Line, LineReason};
 use hm_schedule::round_trip::{read_back, write_back};
 use hm_schedule::write_line::write_line;
@@ -172,37 +170,6 @@ fn writes_back_what_it_reads(rt: HostRuntime) -> Result<(), Fail> {
 }
 
 #[test]
-fn reads_words(rt: HostRuntime) -> Result<(), Fail> {
-    let groups = (
-        read_group_words(b"vr", b"5"),
-        read_group_words(b"vr", b"6"),
-        read_group_words(b"chain", b"8"),
-    );
-    assert_eq!(rt; groups, (Some((GroupKind::Vr, 5)), None, None));
-    let made = Made {
-        number: 18_446_744_073_709_551_615,
-        kind: GroupKind::Chain,
-        size: 1,
-    };
-    for (text, command) in [
-        (
-            "generate 18446744073709551615 chain 1",
-            Some(Command::Generate(made)),
-        ),
-        ("generate 18446744073709551616 chain 1", None),
-        ("generate -1 chain 1", None),
-        ("schedule 01 chain 1", None),
-        ("schedule 1 chains 1", None),
-        ("schedule 1 chain", None),
-        ("--help", None),
-    ] {
-        let words = words(rt.alloc(), text)?;
-        assert_eq!(rt; read_command(&words), command);
-    }
-    Ok(())
-}
-
-#[test]
 fn writes_a_made_schedule(rt: HostRuntime) -> Result<(), Fail> {
     let alloc = rt.alloc();
     let text = put(&rt, alloc, "schedule 42 vr 7", b"", &[], Status::Done)?;
@@ -241,32 +208,5 @@ fn sums_made_schedules_up(rt: HostRuntime) -> Result<(), Fail> {
         Status::WriteFault,
     )?;
     assert_eq!(rt; none.as_slice(), b"".as_slice());
-    Ok(())
-}
-
-/// How many lines of a text begin and end so.
-fn lines_like(text: &[u8], begin: &[u8], end: &[u8]) -> usize {
-    text.split(|byte| *byte == b'\n')
-        .filter(|line| line.starts_with(begin) && line.ends_with(end))
-        .count()
-}
-
-#[test]
-fn replays_a_made_schedule_to_its_summary(rt: HostRuntime) -> Result<(), Fail> {
-    let alloc = rt.alloc();
-    let schedule = put(&rt, alloc, "schedule 42 primary 5", b"", &[], Status::Done)?;
-    let replayed = put(&rt, alloc, "replay", schedule.as_slice(), &[], Status::Done)?;
-    let text = replayed.as_slice();
-    for (begin, end, count) in [
-        (b"event ".as_slice(), b"".as_slice(), 16_384),
-        (b"event ".as_slice(), b" ok".as_slice(), 8619),
-        (b"packet ".as_slice(), b"".as_slice(), 7635),
-        (b"invoke ".as_slice(), b"".as_slice(), 904),
-        (b"commit ".as_slice(), b"".as_slice(), 430),
-        (b"reply ".as_slice(), b"".as_slice(), 901),
-        (b"place ".as_slice(), b"".as_slice(), 901),
-    ] {
-        assert_eq!(rt; lines_like(text, begin, end), count);
-    }
     Ok(())
 }

@@ -25,11 +25,7 @@ mod rows;
 #[cfg(test)]
 mod schedule;
 #[cfg(test)]
-mod shim;
-#[cfg(test)]
 mod show;
-#[cfg(test)]
-mod switch;
 #[cfg(test)]
 mod vr_rows;
 #[cfg(test)]

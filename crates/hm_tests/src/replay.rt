@@ -8,7 +8,6 @@ use hm_outside::memory::{MemorySink, MemorySource};
 use hm_outside::sure::{SureSink, SureSource};
 use hm_replay::replay::run;
 use hm_replay::status::Status;
-use hm_schedule::line::LineReason;
 use std::alloc::{AllocError, Global};
 use std::io;
 use std::io::Read;
@@ -125,72 +124,6 @@ fn stops_where_a_device_fails(rt: HostRuntime) -> Result<(), Fail> {
     assert_run(&rt, cut, 5, FIRST_EVENT);
     let unread = ran(rt.alloc(), &["replay"], schedule, &[1], &[])?;
     assert_run(&rt, unread, 4, b"");
-    Ok(())
-}
-
-/// Asserts how a schedule ends that is a group, so many times these bytes, and then others.
-fn assert_end(
-    rt: &impl Abort,
-    alloc: Global,
-    parts: (usize, &[u8], &[u8]),
-    status: Status,
-    end: &[u8],
-) -> Result<(), Fail> {
-    let (count, repeated, last) = parts;
-    let mut schedule = b"group chain 1\n".to_vec(alloc)?;
-    for _ in 0..count {
-        schedule.extend_from_slice(repeated)?;
-    }
-    schedule.extend_from_slice(last)?;
-    let (ended, sink) = ran(alloc, &["replay"], schedule.as_slice(), &[], &[])?;
-    assert_eq!(rt; ended, status);
-    assert!(rt; sink.as_slice().ends_with(end));
-    Ok(())
-}
-
-#[test]
-fn refuses_a_line_that_is_too_long(rt: HostRuntime) -> Result<(), Fail> {
-    let alloc = rt.alloc();
-    let long = Status::TooLong { line: 2 };
-    let word = Status::BadLine {
-        line: 2,
-        reason: LineReason::Word,
-    };
-    let end = Status::BadLine {
-        line: 2,
-        reason: LineReason::End,
-    };
-    assert_end(&rt, alloc, (8192, b"a", b"\n"), word, b"bad 2 Word\n")?;
-    assert_end(&rt, alloc, (8193, b"a", b"\n"), long, b"toolong 2\n")?;
-    assert_end(&rt, alloc, (8192, b"a", b""), end, b"bad 2 End\n")?;
-    assert_end(&rt, alloc, (8193, b"a", b""), long, b"toolong 2\n")
-}
-
-#[test]
-fn stops_behind_the_last_event(rt: HostRuntime) -> Result<(), Fail> {
-    let alloc = rt.alloc();
-    let long = Status::TooLong { line: 16_386 };
-    assert_end(
-        &rt,
-        alloc,
-        (16_384, b"next\n", b""),
-        Status::Done,
-        b"\nend\n",
-    )?;
-    assert_end(
-        &rt,
-        alloc,
-        (16_384, b"next\n", b"n"),
-        long,
-        b"\ntoolong 16386\n",
-    )
-}
-
-#[test]
-fn takes_one_word(rt: HostRuntime) -> Result<(), Fail> {
-    let schedule = WRITE_THEN_READ.schedule;
-    let ended = ran(rt.alloc(), &["replay", "now"], schedule, &[], &[])?;
-    assert_run(&rt, ended, 2, b"");
     Ok(())
 }
 

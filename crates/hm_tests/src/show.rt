@@ -2,7 +2,6 @@ use hm_outside::device::{Failed, Source};
 use hm_outside::memory::{MemorySink, MemorySource};
 use hm_outside::sure::{SureSink, SureSource};
 use hm_show::show::{MAX_FRAMES, Shown, show};
-use hm_wire::malformed::{Malformed, Reason};
 use std::alloc::Global;
 use std::test::Fail;
 
@@ -23,29 +22,6 @@ fn shown(
     let mut sink = MemorySink::open(alloc, 4096, put_fails.to_vec(alloc)?)?;
     let shown = show(alloc, &mut source, &mut sink);
     Ok((shown, sink))
-}
-
-#[test]
-fn shows_a_frame(rt: HostRuntime) -> Result<(), Fail> {
-    let (shown, sink) = shown(rt.alloc(), &READ_FRAME, &[], &[])?;
-    assert_eq!(rt; shown, Shown::Done);
-    assert_eq!(rt;
-        sink.as_slice(),
-        b"packet 1 c8 s1 read 1 5\nend 1\n".as_slice()
-    );
-    Ok(())
-}
-
-#[test]
-fn ends_inside_a_frame(rt: HostRuntime) -> Result<(), Fail> {
-    let (shown, sink) = shown(rt.alloc(), &READ_FRAME[..10], &[], &[])?;
-    let fault = Malformed {
-        at: 10,
-        reason: Reason::Short,
-    };
-    assert_eq!(rt; shown, Shown::BadFrame { number: 1, fault });
-    assert_eq!(rt; sink.as_slice(), b"bad 1 10 Short\n".as_slice());
-    Ok(())
 }
 
 #[test]

@@ -4,7 +4,6 @@ use crate::frame::READ_FRAME;
 use hm_base::node::GroupKind;
 use hm_packet::outcome::Outcome;
 use hm_schedule::event::{Event, Setup};
-use hm_world::fault::WorldFault;
 use hm_world::world::World;
 use std::alloc::Global;
 use std::test::Fail;
@@ -40,21 +39,12 @@ fn after_the_first_read(alloc: Global) -> Result<(Outcome, Vec<u8>, u32, usize),
     after_a_read(alloc, &mut world)
 }
 
-// Longer schedules stand in the crate of the replay, whose one call takes a whole schedule.
+// Longer schedules are rows of the replay, whose one call takes a whole schedule.
 #[test]
 fn a_read_is_sent(rt: HostRuntime) -> Result<(), Fail> {
     let (outcome, sent, events, marks) = after_the_first_read(rt.alloc())?;
     assert_eq!(rt; outcome, Outcome::Ok { first: 1, count: 1 });
     assert_eq!(rt; sent.as_slice(), &READ_FRAME[2..]);
     assert_eq!(rt; (events, marks), (1, 1));
-    Ok(())
-}
-
-#[test]
-fn a_setup_out_of_range_is_refused(rt: HostRuntime) -> Result<(), Fail> {
-    let mut setup = ONE;
-    setup.stages = 5;
-    let fault = World::open(rt.alloc(), &setup).err();
-    assert!(rt; fault == Some(WorldFault::Stages));
     Ok(())
 }
